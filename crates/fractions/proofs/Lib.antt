@@ -1,0 +1,7 @@
+-- Laws of fractions. A crate above cites them as Rattle.fractions.proofs.NAME.
+pub mod Divisors
+pub mod Order
+pub mod LowestTerms
+pub mod Additions
+pub mod Ranges
+pub mod Shares

@@ -1,0 +1,92 @@
+-- Rates within bounds: their products fit, the test of a rate is exact, and a sum is within the sum of the bounds.
+-- Assumes nothing.
+use mathlib.Core.Path.{_≡_, refl, sym, subst}
+use mathlib.Core.Bool.{Bool, true, false, _&&_}
+use Prim.Native.Nat.{ℕ, _+_, _*_, _^_, _≤_}
+use native.Mathlib.Nat.{mul-le-mul, mul-le-mul-right, mul-pos, le-of-mul-le-mul-right}
+use native.Mathlib.Omega.{arith}
+use borrow.Author.Tests.{ltb-true, leb-true, eqb-true, eq-eqb, lt-ltb, le-leb}
+use lib.Dec.{lit≤}
+use Rattle.fractions.specs.Divisor.{IsGcd}
+use Rattle.fractions.specs.Fraction.{Within, limit, maxRate, Lowest, wholeOf, pick, fineOf, addOf, plusOf, sameOf, isRateOf}
+use Rattle.fractions.specs.declared.Rate.{Rate}
+use Rattle.fractions.specs.declared.Sum.the-variants as sum
+use Rattle.fractions.proofs.Divisors.{gcd-is, gcd-unique}
+use Rattle.fractions.proofs.LowestTerms.{lowest-same, lowest-pos, lowest-lowest, lowest-unique, whole-lowest}
+
+-- a cross product of two rates is far below 2 ^ 64, and so is the sum of two
+pub cross-fits : {a b : Rate} → Within limit a → Within limit b → a .num * b .den ≤ 2 ^ 62
+cross-fits wa wb = omega (arith, mul-le-mul (wa .num) (wb .den))
+
+pub within-lowest : {m : ℕ} {a : Rate} → Within m a → Lowest a
+within-lowest w = record { pos = w .pos; coprime = w .coprime }
+
+pub within-more : {m n : ℕ} {a : Rate} → m ≤ n → Within m a → Within n a
+within-more {m} {n} {a} h w =
+    record { pos = w .pos; coprime = w .coprime; den = w .den; num = omega (arith, mul-le-mul-right (a .den) h, w .num) }
+
+pub whole-within : {m n : ℕ} → n ≤ m → Within m (wholeOf n)
+whole-within {m} {n} h =
+    record { pos = omega arith; coprime = whole-lowest n .coprime; den = lit≤ tt; num = omega arith }
+
+-- a test that chose the first
+picked : {A : Type 0} {x y z : A} (t : Bool) → pick t x y ≡ z → (y ≡ z → ⊥) → (t ≡ true) × (x ≡ z)
+picked true e n = (refl, e)
+picked false e n = absurd (n e)
+
+-- a sum that comes back as a rate is the sum, and its denominator is within the limit
+pub plus-rate : (a b : Rate) {s : Rate} → plusOf a b ≡ sum.Rate s → (addOf a b ≡ s) × (s .den ≤ 1048576)
+unfolding plusOf
+plus-rate a b {s} e =
+    let p = picked (fineOf (addOf a b)) e (λ q. let z : _≡_ {A = ℕ} 0 1 = cc in omega arith) in
+    let q : addOf a b ≡ s = cc in
+    (q, subst (λ (r : Rate). r .den ≤ 1048576) q (leb-true _ _ (p .0)))
+
+-- a sum of values is no greater than the sum of their bounds
+pub plus-within : {m n : ℕ} {a b s : Rate} → Within m a → Within n b → plusOf a b ≡ sum.Rate s → Within (m + n) s
+unfolding addOf
+plus-within {m} {n} {a} {b} {s} wa wb e =
+    let f = plus-rate a b e in
+    let hD = mul-pos (wa .pos) (wb .pos) in
+    subst (Within (m + n)) (f .0)
+    (record {
+      pos = lowest-pos _ _ hD;
+      coprime = lowest-lowest _ _ hD .coprime;
+      den = subst (λ (r : Rate). r .den ≤ 1048576) (sym (f .0)) (f .1);
+      num =
+          le-of-mul-le-mul-right {k = a .den * b .den}
+          (omega (
+            arith,
+            (lowest-same (a .num * b .den + b .num * a .den) (a .den * b .den)) .cross,
+            mul-le-mul-right ((addOf a b) .den * b .den) (wa .num),
+            mul-le-mul-right ((addOf a b) .den * a .den) (wb .num),
+          ))
+          hD;
+    })
+
+-- the test of the values says whether two rates are one
+pub same-true : {m n : ℕ} {a b : Rate} → Within m a → Within n b → sameOf a b ≡ true → a ≡ b
+same-true wa wb e = lowest-unique (within-lowest wa) (within-lowest wb) (record { cross = eqb-true _ _ e })
+
+both-true : (a b : Bool) → (a && b) ≡ true → (a ≡ true) × (b ≡ true)
+both-true true b e = (refl, e)
+both-true false b e = absurd (let z : _≡_ {A = ℕ} 0 1 = cc in omega arith)
+
+-- the test of a rate passes exactly where it is one
+pub is-rate-within : {a : Rate} → isRateOf a ≡ true → Within maxRate a
+unfolding isRateOf
+is-rate-within {a} e =
+    let p = both-true _ _ e in
+    let q = both-true _ _ (p .1) in
+    let r = both-true _ _ (q .1) in
+    record {
+      pos = ltb-true _ _ (p .0);
+      coprime = subst (IsGcd (a .num) (a .den)) (eqb-true _ _ (r .1)) (gcd-is (a .num) (a .den));
+      den = leb-true _ _ (q .0);
+      num = leb-true _ _ (r .0);
+    }
+
+pub within-is-rate : {a : Rate} → Within maxRate a → isRateOf a ≡ true
+unfolding isRateOf
+within-is-rate w =
+    simp (lt-ltb _ _ (w .pos), le-leb _ _ (w .den), le-leb _ _ (w .num), eq-eqb _ _ (sym (gcd-unique (w .coprime))))

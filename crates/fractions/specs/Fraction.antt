@@ -1,0 +1,123 @@
+-- Rates: when a fraction is one, how two compare, and what sums and shares come to. Follows 01, "Fractions" and "The direct calculation".
+-- Answers are in lowest terms, so two answers of one value are equal; `Same`, `Le` and `Lt` speak of the values.
+-- Assumes nothing: definitions.
+use mathlib.Core.Path.{_≡_}
+use mathlib.Core.Bool.{Bool, true, false, _&&_}
+use Prim.Native.Nat.{ℕ, _+_, _-_, _*_, _/_, _≤_, _<_}
+use lib.Dec.{leb, ltb, eqb}
+use Rattle.fractions.specs.Divisor.{IsGcd, gcdOf}
+use Rattle.fractions.specs.declared.Rate.{Rate}
+use Rattle.fractions.specs.declared.Part.{Part}
+use Rattle.fractions.specs.declared.Sum.{Sum}
+use Rattle.fractions.specs.declared.Sum.the-variants as sum
+use Rattle.fractions.specs.declared.Share.{Share}
+use Rattle.fractions.specs.declared.Share.the-variants as share
+
+-- 01, "Fractions": denominators are limited to 1,048,576
+abbrev pub maxDen : ℕ
+maxDen = 1048576
+
+-- 01, refusal 14: rates are 0 to 1,000,000
+abbrev pub maxRate : ℕ
+maxRate = 1000000
+
+-- n / d as it stands
+abbrev pub frac : ℕ → ℕ → Rate
+frac n d = record { num = n; den = d }
+
+-- 01: zero is 0/1
+abbrev pub zeroOf : Rate
+zeroOf = frac 0 1
+
+-- a whole number
+abbrev pub wholeOf : ℕ → Rate
+wholeOf n = frac n 1
+
+-- WHAT A RATE IS ------------------------------------------------------------------------------------------------------
+
+-- in lowest terms: no divisor in common but 1
+pub record Lowest (a : Rate) : Type 0 where
+  pub pos : 0 < a .den
+  pub coprime : IsGcd (a .num) (a .den) 1
+
+-- a rate of at most m: in lowest terms, with a denominator within the limit
+pub record Within (m : ℕ) (a : Rate) : Type 0 where
+  pub pos : 0 < a .den
+  pub coprime : IsGcd (a .num) (a .den) 1
+  pub den : a .den ≤ maxDen
+  pub num : a .num ≤ m * a .den
+
+-- the largest value that comparisons and sums take: up to here their products fit 64 bits
+abbrev pub limit : ℕ
+limit = 4000000
+
+-- 01, refusal 14: the test of a rate that is handed in, "0 to 1,000,000, denominator to 1,048,576", and in lowest terms
+unfoldable pub isRateOf : Rate → Bool
+isRateOf a = ltb 0 (a .den) && (leb (a .den) maxDen && (leb (a .num) (maxRate * a .den) && eqb (gcdOf (a .num) (a .den)) 1))
+
+-- THE VALUES COMPARED -------------------------------------------------------------------------------------------------
+
+-- the same value: the cross products are equal
+pub record Same (a b : Rate) : Type 0 where
+  pub cross : a .num * b .den ≡ b .num * a .den
+
+-- no greater a value
+pub record Le (a b : Rate) : Type 0 where
+  pub cross : a .num * b .den ≤ b .num * a .den
+
+-- a smaller value
+pub record Lt (a b : Rate) : Type 0 where
+  pub cross : a .num * b .den < b .num * a .den
+
+-- the same, as tests: 01, "Rates are compared exactly"
+abbrev pub leOf : Rate → Rate → Bool
+leOf a b = leb (a .num * b .den) (b .num * a .den)
+
+abbrev pub ltOf : Rate → Rate → Bool
+ltOf a b = ltb (a .num * b .den) (b .num * a .den)
+
+abbrev pub sameOf : Rate → Rate → Bool
+sameOf a b = eqb (a .num * b .den) (b .num * a .den)
+
+-- LOWEST TERMS, SUMS AND SHARES ---------------------------------------------------------------------------------------
+
+-- n / d in lowest terms
+unfoldable pub lowestOf : ℕ → ℕ → Rate
+lowestOf n d = record { num = n / gcdOf n d; den = d / gcdOf n d }
+
+-- the denominator is within the limit
+abbrev pub fineOf : Rate → Bool
+fineOf a = leb (a .den) maxDen
+
+-- the first where the test passes, else the second
+abbrev pub pick : {A : Type 0} → Bool → A → A → A
+pick true a b = a
+pick false a b = b
+
+-- a + b in lowest terms
+unfoldable pub addOf : Rate → Rate → Rate
+addOf a b = lowestOf (a .num * b .den + b .num * a .den) (a .den * b .den)
+
+-- a + b, or that its denominator is over the limit (01, refusal 12)
+unfoldable pub plusOf : Rate → Rate → Sum
+plusOf a b = pick (fineOf (addOf a b)) (sum.Rate (addOf a b)) sum.TooFine
+
+-- k times a, in lowest terms
+unfoldable pub timesOf : ℕ → Rate → Rate
+timesOf k a = lowestOf (k * a .num) (a .den)
+
+-- what a link has left: its capacity c minus what is taken, over the denominator of what is taken
+abbrev pub leftOf : ℕ → Rate → Part
+leftOf c t = record { num = c * t .den - t .num; den = t .den }
+
+-- what each of k sessions gets of a part
+abbrev pub amongOf : Part → ℕ → Part
+amongOf p k = record { num = p .num; den = p .den * k }
+
+-- 01, "The direct calculation": a link's share is (capacity minus the rates already fixed there) / (sessions there not yet fixed)
+unfoldable pub eachOf : ℕ → Rate → ℕ → Rate
+eachOf c t k = lowestOf (c * t .den - t .num) (t .den * k)
+
+-- a link's share, or that its denominator is over the limit
+unfoldable pub shareOf : ℕ → Rate → ℕ → Share
+shareOf c t k = pick (fineOf (eachOf c t k)) (share.Rate (eachOf c t k)) share.TooFine

@@ -1,0 +1,3 @@
+-- The definitions that the contracts of fractions cite.
+pub mod Divisor
+pub mod Fraction

@@ -1,0 +1,107 @@
+-- Members: who is one after `put` and `cut`, how large the words get, and that the members make the word.
+-- Assumes nothing.
+use mathlib.Core.Logic.{_⊎_, inl, inr}
+use mathlib.Core.Path.{_≡_, refl, ap, _∙_}
+use Prim.Native.Nat.{ℕ, zero, suc, _+_, _*_, _/_, _%_, _^_, _≤_, _<_}
+use native.Mathlib.Nat.{pow-suc}
+use native.Mathlib.Omega.{arith}
+use Rattle.sessions.specs.Set.{has, put, cut}
+
+-- a digit is 0 or 1
+pub has-lt : (s w : ℕ) → has s w < 2
+unfolding has
+has-lt zero w = omega arith
+has-lt (suc s) w = has-lt s (w / 2)
+
+pub digit : (d : ℕ) → d < 2 → (d ≡ 0) ⊎ (d ≡ 1)
+digit zero h = inl refl
+digit (suc zero) h = inr refl
+digit (suc (suc d)) h = absurd (omega arith)
+
+-- a session is a member or it is not
+pub has-or-not : (s w : ℕ) → (has s w ≡ 0) ⊎ (has s w ≡ 1)
+has-or-not s w = digit (has s w) (has-lt s w)
+
+-- the empty set has no member
+pub has-zero : (s : ℕ) → has s 0 ≡ 0
+unfolding has
+has-zero zero = refl
+has-zero (suc s) = has-zero s
+
+-- a set with a member is not empty
+pub has-pos : (s w : ℕ) → has s w ≡ 1 → 0 < w
+unfolding has
+has-pos zero w h = omega arith
+has-pos (suc s) w h = omega (arith, has-pos s (w / 2) h)
+
+-- no digit past the width
+pub has-high : (k s w : ℕ) → w < 2 ^ k → k ≤ s → has s w ≡ 0
+unfolding has
+has-high zero s w h l = ap (has s) {x = w} {y = 0} (omega arith) ∙ has-zero s
+has-high (suc k) zero w h l = absurd (omega arith)
+has-high (suc k) (suc s) w h l = has-high k s (w / 2) (omega (arith, pow-suc 2 k)) (omega arith)
+
+-- halves of words that were put together digit by digit
+half : (x d : ℕ) → d < 2 → (x * 2 + d) / 2 ≡ x
+half x d h = omega arith
+
+pub has-put-same : (s w : ℕ) → has s (put s w) ≡ 1
+unfolding has put
+has-put-same zero w = omega arith
+has-put-same (suc s) w = ap (has s) (half (put s (w / 2)) (w % 2) (omega arith)) ∙ has-put-same s (w / 2)
+
+pub has-put-other : (s t w : ℕ) → (s ≡ t → ⊥) → has t (put s w) ≡ has t w
+unfolding has put
+has-put-other zero zero w n = absurd (n refl)
+has-put-other zero (suc t) w n = ap (has t) (half (w / 2) 1 (omega arith))
+has-put-other (suc s) zero w n = omega arith
+has-put-other (suc s) (suc t) w n =
+    ap (has t) (half (put s (w / 2)) (w % 2) (omega arith)) ∙ has-put-other s t (w / 2) (λ e. n (ap suc e))
+
+pub has-cut-same : (s w : ℕ) → has s (cut s w) ≡ 0
+unfolding has cut
+has-cut-same zero w = omega arith
+has-cut-same (suc s) w = ap (has s) (half (cut s (w / 2)) (w % 2) (omega arith)) ∙ has-cut-same s (w / 2)
+
+pub has-cut-other : (s t w : ℕ) → (s ≡ t → ⊥) → has t (cut s w) ≡ has t w
+unfolding has cut
+has-cut-other zero zero w n = absurd (n refl)
+has-cut-other zero (suc t) w n = ap (has t) {x = w / 2 * 2 / 2} {y = w / 2} (omega arith)
+has-cut-other (suc s) zero w n = omega arith
+has-cut-other (suc s) (suc t) w n =
+    ap (has t) (half (cut s (w / 2)) (w % 2) (omega arith)) ∙ has-cut-other s t (w / 2) (λ e. n (ap suc e))
+
+-- nobody joins by a cut
+pub has-cut-le : (t s w : ℕ) → has t (cut s w) ≤ has t w
+unfolding has cut
+has-cut-le zero zero w = omega arith
+has-cut-le (suc t) zero w = omega (arith, ap (has t) {x = w / 2 * 2 / 2} {y = w / 2} (omega arith))
+has-cut-le zero (suc s) w = omega arith
+has-cut-le (suc t) (suc s) w = omega (arith, ap (has t) (half (cut s (w / 2)) (w % 2) (omega arith)), has-cut-le t s (w / 2))
+
+pub cut-le : (s w : ℕ) → cut s w ≤ w
+unfolding cut
+cut-le zero w = omega arith
+cut-le (suc s) w = omega (arith, cut-le s (w / 2))
+
+pub cut-lt : (s w : ℕ) → has s w ≡ 1 → cut s w < w
+unfolding cut has
+cut-lt zero w h = omega arith
+cut-lt (suc s) w h = omega (arith, cut-lt s (w / 2) h)
+
+pub put-lt : (k s w : ℕ) → s < k → w < 2 ^ k → put s w < 2 ^ k
+unfolding put
+put-lt zero s w h l = omega arith
+put-lt (suc k) zero w h l = omega (arith, pow-suc 2 k)
+put-lt (suc k) (suc s) w h l = omega (arith, pow-suc 2 k, put-lt k s (w / 2) (omega arith) (omega (arith, pow-suc 2 k)))
+
+-- two words with the same members are one
+pub same-members : (k w v : ℕ) → w < 2 ^ k → v < 2 ^ k → ((s : ℕ) → s < k → has s w ≡ has s v) → w ≡ v
+unfolding has
+same-members zero w v hw hv e = omega arith
+same-members (suc k) w v hw hv e =
+    omega (
+      arith,
+      e 0 (omega arith),
+      same-members k (w / 2) (v / 2) (omega (arith, pow-suc 2 k)) (omega (arith, pow-suc 2 k)) (λ s l. e (suc s) (omega arith)),
+    )

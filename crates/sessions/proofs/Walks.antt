@@ -1,0 +1,124 @@
+-- The members by rising number: the lowest is the count of trailing zeros, and one turn and the end of every loop over them.
+-- Assumes nothing.
+use mathlib.Core.List.{List, [], _∷_}
+use mathlib.Core.Logic.{_⊎_, ⊎-elim}
+use mathlib.Core.Path.{_≡_, refl, sym, ap, ap₂, _∙_}
+use Prim.Native.Nat.{ℕ, zero, suc, _+_, _*_, _/_, _%_, _^_, _<_, suc-le-suc}
+use native.Mathlib.Nat.{pow-suc, add-zero, zero-add}
+use native.Mathlib.Omega.{arith}
+use lib.Count.{ones, ones-step, trailingZeros}
+use lib.ListN.{length}
+use Rattle.sessions.specs.Set.{has, cut, membersFrom, members, nextOf, walk}
+use Rattle.sessions.proofs.Members.{cut-lt, digit}
+use Rattle.sessions.proofs.Counts.{ones-zero}
+
+two : (w : ℕ) → (w % 2 ≡ 0) ⊎ (w % 2 ≡ 1)
+two w = digit (w % 2) (omega arith)
+
+-- THE LOWEST MEMBER ---------------------------------------------------------------------------------------------------
+
+pub low-has : (k w : ℕ) → 0 < w → w < 2 ^ k → has (trailingZeros k w) w ≡ 1
+unfolding has trailingZeros
+low-has zero w p h = omega arith
+low-has (suc k) w p h =
+    ⊎-elim (λ e. rw e (low-has k (w / 2) (omega arith) (omega (arith, pow-suc 2 k)))) (λ e. rw e e) (two w)
+
+pub low-lt : (k w : ℕ) → 0 < w → w < 2 ^ k → trailingZeros k w < k
+unfolding trailingZeros
+low-lt zero w p h = omega arith
+low-lt (suc k) w p h =
+    ⊎-elim (λ e. rw e (suc-le-suc (low-lt k (w / 2) (omega arith) (omega (arith, pow-suc 2 k))))) (λ e. rw e (omega arith)) (two w)
+
+-- nobody is below it
+pub below-low : (k w t : ℕ) → t < trailingZeros k w → has t w ≡ 0
+unfolding has trailingZeros
+below-low zero w t h = omega arith
+below-low (suc k) w zero h = ⊎-elim (λ e. e) (λ e. absurd (omega (arith, rw e at h))) (two w)
+below-low (suc k) w (suc t) h =
+    ⊎-elim (λ e. below-low k (w / 2) t (omega (arith, rw e at h))) (λ e. absurd (omega (arith, rw e at h))) (two w)
+
+low-even : (k w : ℕ) → w % 2 ≡ 0 → trailingZeros (suc k) w ≡ suc (trailingZeros k (w / 2))
+unfolding trailingZeros
+low-even k w e = rw e
+
+low-odd : (k w : ℕ) → w % 2 ≡ 1 → trailingZeros (suc k) w ≡ 0
+unfolding trailingZeros
+low-odd k w e = rw e
+
+-- THE MEMBERS AS A LIST -----------------------------------------------------------------------------------------------
+
+members-zero : (k b : ℕ) → membersFrom k b 0 ≡ []
+unfolding membersFrom
+members-zero zero b = refl
+members-zero (suc k) b = members-zero k (suc b)
+
+members-even : (k b w v : ℕ) → w % 2 ≡ 0 → w / 2 ≡ v → membersFrom (suc k) b w ≡ membersFrom k (suc b) v
+unfolding membersFrom
+members-even k b w v e f = rw (e, f)
+
+members-odd : (k b w v : ℕ) → w % 2 ≡ 1 → w / 2 ≡ v → membersFrom (suc k) b w ≡ b ∷ membersFrom k (suc b) v
+unfolding membersFrom
+members-odd k b w v e f = rw (e, f)
+
+-- the lowest comes first, then the members of what is left
+pub members-low : (k b w : ℕ) → 0 < w → w < 2 ^ k
+    → membersFrom k b w ≡ (b + trailingZeros k w) ∷ membersFrom k b (cut (trailingZeros k w) w)
+unfolding cut
+members-low zero b w p h = absurd (omega arith)
+members-low (suc k) b w p h =
+    ⊎-elim
+    (λ e.
+    let t = trailingZeros k (w / 2) in
+    let j : suc b + t ≡ b + suc t = omega arith in
+    let f : (cut t (w / 2) * 2 + w % 2) % 2 ≡ 0 = omega arith in
+    let q : (cut t (w / 2) * 2 + w % 2) / 2 ≡ cut t (w / 2) = omega arith in
+    members-even k b w (w / 2) e refl
+    ∙ members-low k (suc b) (w / 2) (omega arith) (omega (arith, pow-suc 2 k))
+    ∙ rw (low-even k w e)
+    (ap₂ (λ (x : ℕ) (l : List ℕ). x ∷ l) j
+    (sym (members-even k b (cut t (w / 2) * 2 + w % 2) (cut t (w / 2)) f q))))
+    (λ e.
+    members-odd k b w (w / 2) e refl
+    ∙ rw (low-odd k w e)
+    (ap₂ (λ (x : ℕ) (l : List ℕ). x ∷ l) (sym (add-zero b))
+    (sym (members-even k b (w / 2 * 2) (w / 2) (omega arith) (omega arith)))))
+    (two w)
+
+-- as many as the count of ones
+pub members-length : (k b w : ℕ) → w < 2 ^ k → length (membersFrom k b w) ≡ ones w
+unfolding membersFrom
+members-length zero b w h = sym (ap ones {x = w} {y = 0} (omega arith) ∙ ones-zero)
+members-length (suc k) b w h =
+    ⊎-elim
+    (λ e. rw e (omega (arith, members-length k (suc b) (w / 2) (omega (arith, pow-suc 2 k)), ones-step w)))
+    (λ e. rw e (omega (arith, members-length k (suc b) (w / 2) (omega (arith, pow-suc 2 k)), ones-step w)))
+    (two w)
+
+-- A LOOP OVER THE MEMBERS ---------------------------------------------------------------------------------------------
+
+-- s is the next session of w, and v is what is then left: it is below 32, less is left, and the list goes on with the members of v
+pub next-below : (w s : ℕ) → 0 < w → w < 2 ^ 32 → s ≡ nextOf w → s < 32
+next-below w s p h e = rw e (low-lt 32 w p h)
+
+pub next-has : (w s : ℕ) → 0 < w → w < 2 ^ 32 → s ≡ nextOf w → has s w ≡ 1
+next-has w s p h e = rw e (low-has 32 w p h)
+
+pub next-less : (w s v : ℕ) → 0 < w → w < 2 ^ 32 → s ≡ nextOf w → v ≡ cut s w → v < w
+next-less w s v p h e f = rw (f, e) (cut-lt (trailingZeros 32 w) w (low-has 32 w p h))
+
+pub next-members : (w s v : ℕ) → 0 < w → w < 2 ^ 32 → s ≡ nextOf w → v ≡ cut s w → members w ≡ s ∷ members v
+next-members w s v p h e f = members-low 32 0 w p h ∙ rw (f, e, zero-add)
+
+pub no-members : (w : ℕ) → w ≡ 0 → members w ≡ []
+no-members w e = rw (e, members-zero 32 0)
+
+-- one turn, and the end, of any loop over the members of a word
+module _ {S : Type 0} (step : S → ℕ → S) where
+  pub walk-turn : (a x : S) (w s v : ℕ) → 0 < w → w < 2 ^ 32 → s ≡ nextOf w → v ≡ cut s w → x ≡ step a s
+      → walk step a (members w) ≡ walk step x (members v)
+  unfolding walk
+  walk-turn a x w s v p h e f g = rw (next-members w s v p h e f, g)
+
+  pub walk-end : (a : S) (w : ℕ) → w ≡ 0 → walk step a (members w) ≡ a
+  unfolding walk
+  walk-end a w e = rw (no-members w e)

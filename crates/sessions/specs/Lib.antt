@@ -1,0 +1,2 @@
+-- The definitions that the contracts of sessions cite.
+pub mod Set
