@@ -1,11 +1,10 @@
 -- The answer to a problem: there is one, Figure 1's; no second result meets the statement; its denominators are small.
 -- Assumes nothing.
 use mathlib.Core.Path.{_≡_}
-use Prim.Native.Nat.{ℕ, _≤_, _<_}
-use native.Mathlib.Nat.{le-of-dvd, le-trans}
-use Rattle.fractions.specs.Fraction.{Lowest, Same, frac}
+use Prim.Native.Nat.{ℕ, _≤_}
+use native.Mathlib.Nat.{le-trans}
 use Rattle.fractions.specs.declared.Rate.{Rate}
-use Rattle.fractions.proofs.LowestTerms.{den-divides, lowest-lowest, lowest-same, lowest-unique}
+use Rattle.fractions.proofs.LowestTerms.{lowest-den, lowest-lowest, lowest-same, lowest-unique}
 use Rattle.fractions.proofs.Order.{same-sym, same-trans}
 use Rattle.fairness.specs.Answer.{Answer, figure1Rate}
 use Rattle.fairness.specs.Figure1.{figure1, rate}
@@ -32,10 +31,6 @@ figure1-answer p =
       shown = λ s h. lowest-same (rate (figure1 p) s) (figure1 p .den);
       lowest = λ s h. lowest-lowest (rate (figure1 p) s) (figure1 p .den) (figure1-fair p .feasible .pos);
     }
-
--- a fraction in lowest terms has at most the denominator that it is written over
-pub lowest-den : {r : Rate} (a N : ℕ) → 0 < N → Lowest r → Same r (frac a N) → r .den ≤ N
-lowest-den a N pos l e = le-of-dvd pos (den-divides a N l e)
 
 -- 01: with 32 sessions every rate has a denominator of at most 118,098
 pub answer-denominator : (p : Problem) (r : ℕ → Rate) → p .sessions ≤ 32 → Answer p r → (s : ℕ) → Active p s → r s .den ≤ 118098

@@ -14,22 +14,22 @@ use Rattle.fairness.proofs.Tests.{last}
 use Rattle.fairness.proofs.Uniqueness.{Common}
 
 -- positive numbers have a common multiple
-pub common : (n : ℕ) (weight : ℕ → ℕ) → ((s : ℕ) → s < n → 0 < weight s) → Common (λ s. s < n) weight
-common zero weight h = record { of = 1; times = λ s. 1; pos = omega arith; is = λ s l. absurd (omega arith) }
-common (suc n) weight h = next (common n weight (λ s l. h s (omega arith)))
+pub common : (n : ℕ) (f : ℕ → ℕ) → ((s : ℕ) → s < n → 0 < f s) → Common (λ s. s < n) f
+common zero f h = record { of = 1; times = λ s. 1; pos = omega arith; is = λ s l. absurd (omega arith) }
+common (suc n) f h = next (common n f (λ s l. h s (omega arith)))
   where
-    next : Common (λ s. s < n) weight → Common (λ s. s < suc n) weight
+    next : Common (λ s. s < n) f → Common (λ s. s < suc n) f
     next c =
         record {
-          of = c .of * weight n;
-          times = λ s. cond (ltb s n) (c .times s * weight n) (c .of);
+          of = c .of * f n;
+          times = λ s. cond (ltb s n) (c .times s * f n) (c .of);
           pos = mul-pos (c .pos) (h n (omega arith));
           is = λ s l. go s (last l);
         }
       where
-        go : (s : ℕ) → (s < n) ⊎ (s ≡ n) → cond (ltb s n) (c .times s * weight n) (c .of) * weight s ≡ c .of * weight n
-        go s (inl l) = rw (lt-ltb s n l) (omega (arith, ap (λ v. v * weight n) (c .is s l)))
-        go s (inr e) = rw (le-ltb s n (omega arith)) (ap (λ v. c .of * weight v) e)
+        go : (s : ℕ) → (s < n) ⊎ (s ≡ n) → cond (ltb s n) (c .times s * f n) (c .of) * f s ≡ c .of * f n
+        go s (inl l) = rw (lt-ltb s n l) (omega (arith, ap (λ v. v * f n) (c .is s l)))
+        go s (inr e) = rw (le-ltb s n (omega arith)) (ap (λ v. c .of * f v) e)
 
 -- the rates r of n sessions, over one denominator
 pub record Together (n : ℕ) (r : ℕ → Rate) : Type 0 where

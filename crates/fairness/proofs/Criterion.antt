@@ -20,9 +20,9 @@ bottleneck-criterion p N x a b = fair-of-net p N x a (net-criterion (net p) N X 
     X : ℕ → ℕ
     X s = part (p .active s) (x s)
 
-    idle : (c : Bool) (v l : ℕ) → T (not c) → part c v ≡ N * part c l
-    idle true v l u = absurd u
-    idle false v l u = omega arith
+    inactive : (c : Bool) (v l : ℕ) → T (not c) → part c v ≡ N * part c l
+    inactive true v l u = absurd u
+    inactive false v l u = omega arith
 
     bind : (s : ℕ) → Active p s → Restricted p N x s → (e : ℕ) × NetBottleneck (net p) N X s e
     bind s h (inl q) = (
@@ -33,5 +33,5 @@ bottleneck-criterion p N x a b = fair-of-net p N x a (net-criterion (net p) N X 
     bind s h (inr k) = (k .0, link-bottleneck p N x s (k .0) h (k .1))
 
     find : (s : ℕ) → s < p .sessions → T (p .active s) ⊎ T (not (p .active s)) → (e : ℕ) × NetBottleneck (net p) N X s e
-    find s h (inr u) = (p .links + s, own-bottleneck p N X s h (idle (p .active s) (x s) (p .D s) u))
+    find s h (inr u) = (p .links + s, own-bottleneck p N X s h (inactive (p .active s) (x s) (p .D s) u))
     find s h (inl u) = bind s (h, u) (b s (h, u))

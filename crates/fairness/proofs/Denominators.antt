@@ -1,5 +1,5 @@
--- Denominators of Figure 1: after some rounds N is at most the largest product for the number of sessions fixed, and so is N times the sessions open
--- at a link. With 32 sessions neither is ever above 118,098.
+-- Denominators of Figure 1: after some rounds N is at most the largest product for the number of sessions fixed, so with 32 sessions N, and N times
+-- the number of sessions open at a link, are never above 118,098.
 -- Assumes nothing.
 use mathlib.Core.Bool.{Bool, not}
 use mathlib.Core.Path.{_≡_, ap}

@@ -11,11 +11,11 @@ use lib.Dec.{T, leb, leb→le}
 use lib.ListN.{getD}
 use Rattle.fairness.proofs.Tests.{and-split, last}
 
--- the largest product of whole numbers whose sum is at most the place, 0 to 32
+-- no product of whole numbers whose sum is at most the place, 0 to 32, is larger
 abbrev products : List ℕ
 products = 1 ∷ 1 ∷ 2 ∷ 3 ∷ 4 ∷ 6 ∷ 9 ∷ 12 ∷ 18 ∷ 27 ∷ 36 ∷ 54 ∷ 81 ∷ 108 ∷ 162 ∷ 243 ∷ 324 ∷ 486 ∷ 729 ∷ 972 ∷ 1458 ∷ 2187 ∷ 2916 ∷ 4374 ∷ 6561 ∷ 8748 ∷ 13122 ∷ 19683 ∷ 26244 ∷ 39366 ∷ 59049 ∷ 78732 ∷ 118098 ∷ []
 
--- the largest product of whole numbers whose sum is at most k
+-- the bound for a sum of k
 unfoldable pub largest : ℕ → ℕ
 largest k = getD products k 0
 
@@ -83,7 +83,10 @@ product-32 cs h =
     let e : total cs + (32 - total cs) ≡ 32 = omega arith in
     omega (arith, product-largest cs h, largest-up (total cs) (32 - total cs) (omega arith), ap largest e, largest-32)
 
--- and one is: ten threes and a two
-pub product-reached : product (2 ∷ 3 ∷ 3 ∷ 3 ∷ 3 ∷ 3 ∷ 3 ∷ 3 ∷ 3 ∷ 3 ∷ 3 ∷ []) ≡ 118098
-unfolding product
-product-reached = refl
+-- ten threes and a two reach it, with a sum of 32
+tens : List ℕ
+tens = 2 ∷ 3 ∷ 3 ∷ 3 ∷ 3 ∷ 3 ∷ 3 ∷ 3 ∷ 3 ∷ 3 ∷ 3 ∷ []
+
+pub product-reached : (cs : List ℕ) × (total cs ≡ 32) × (product cs ≡ 118098)
+unfolding product total tens
+product-reached = (tens, refl, refl)

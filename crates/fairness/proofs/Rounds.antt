@@ -14,7 +14,7 @@ use Rattle.fairness.proofs.Nets.{NetBottleneck}
 use Rattle.fairness.proofs.Sums.{sum-add, sum-at, sum-eq, sum-le, sum-scale}
 use Rattle.fairness.proofs.Tests.{part-both, part-le, split}
 
--- what holds after each round (d: fixed): who is not fixed has nothing yet, the links carry what they have, a rate that is fixed is at most every open
+-- what holds after each round (d: fixed): who is not fixed has nothing yet, no link carries more than its capacity, a rate that is fixed is at most every open
 -- share, and who is fixed has a bottleneck where nobody is left to fix
 pub record Filling (w : Net) (N : ℕ) (x : ℕ → ℕ) (d : ℕ → Bool) : Type 0 where
   pub pos : 0 < N

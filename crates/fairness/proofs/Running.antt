@@ -9,21 +9,21 @@ use native.Mathlib.Omega.{arith}
 use lib.Dec.{T, eqb→eq, ltb}
 use lib.ListN.{getD}
 use borrow.Author.Tests.{le-ltb, lt-ltb, ltb-false, ltb-true}
-use Rattle.fairness.specs.Figure1.{Net, Pick, State, any, at, chosen, counts, fixAt, isFixed, leftAt, lefts, loadAt, nobody, oneRound, openAll, openAt, rate, roundOn, rounds, smaller, smallest, table}
+use Rattle.fairness.specs.Figure1.{Net, Pick, State, any, at, chosen, counts, fixAt, isFixed, leftAt, lefts, nobody, oneRound, openAll, openAt, rate, roundOn, rounds, smaller, smallest, values}
 use Rattle.fairness.specs.Sum.{part}
 use Rattle.fairness.proofs.Denominators.{SmallDenominator, allWeight, small-step}
 use Rattle.fairness.proofs.Rounds.{Filling, Round, falls, step}
 use Rattle.fairness.proofs.Sums.{sum-at, sum-none}
-use Rattle.fairness.proofs.Tests.{and-join, and-split, cond-hit, cond-miss, eqb-T, extend, last, or-cases, or-hit, or-left, or-miss, or-right, order, part-is, part-zero}
+use Rattle.fairness.proofs.Tests.{and-join, and-split, cond-hit, cond-miss, eqb-T, extend, last, or-cases, or-hit, or-left, or-miss, or-right, order, part-is, pos-right}
 
-table-from : {A : Type 0} (n i j : ℕ) (f : ℕ → A) (z : A) → j < n → getD (table i n f) j z ≡ f (i + j)
-unfolding table
-table-from zero i j f z h = absurd (omega arith)
-table-from (suc n) i zero f z h = ap f (omega arith)
-table-from (suc n) i (suc j) f z h = table-from n (suc i) j f z (omega arith) ∙ ap f (omega arith)
+values-from : {A : Type 0} (n i j : ℕ) (f : ℕ → A) (z : A) → j < n → getD (values i n f) j z ≡ f (i + j)
+unfolding values
+values-from zero i j f z h = absurd (omega arith)
+values-from (suc n) i zero f z h = ap f (omega arith)
+values-from (suc n) i (suc j) f z h = values-from n (suc i) j f z (omega arith) ∙ ap f (omega arith)
 
-pub table-at : {A : Type 0} (n j : ℕ) (f : ℕ → A) (z : A) → j < n → getD (table 0 n f) j z ≡ f j
-table-at n j f z h = table-from n 0 j f z h ∙ ap f (omega arith)
+pub values-at : {A : Type 0} (n j : ℕ) (f : ℕ → A) (z : A) → j < n → getD (values 0 n f) j z ≡ f j
+values-at n j f z h = values-from n 0 j f z h ∙ ap f (omega arith)
 
 abbrev Least : (ℕ → ℕ) → (ℕ → ℕ) → ℕ → Pick → Type 0
 Least a c n nobody = (e : ℕ) → e < n → c e ≡ 0
@@ -33,10 +33,6 @@ Least a c n (at b) = (b < n) × (0 < c b) × ((e : ℕ) → e < n → a b * c e 
 cross : (a₁ c₁ a₂ c₂ a₃ c₃ : ℕ) → 0 < c₂ → a₁ * c₂ ≤ a₂ * c₁ → a₂ * c₃ ≤ a₃ * c₂ → a₁ * c₃ ≤ a₃ * c₁
 cross a₁ c₁ a₂ c₂ a₃ c₃ p h k =
     le-of-mul-le-mul-right {k = c₂} (omega (arith, mul-le-mul-right c₃ h, mul-le-mul-right c₁ k)) p
-
-positive : (a c : ℕ) → 0 < a * c → 0 < c
-positive a zero h = absurd (omega arith)
-positive a (suc c) h = omega arith
 
 smallest-least : (a c : ℕ → ℕ) (n : ℕ) → Least a c n (smallest a c n)
 unfolding smallest smaller
@@ -55,7 +51,7 @@ smallest-least a c (suc n) = go (smallest a c n) (smallest-least a c n)
     next b l true q =
         let lt = ltb-true (a n * c b) (a b * c n) q in (
           omega arith,
-          positive (a b) (c n) (omega arith),
+          pos-right (a b) (c n) (omega arith),
           extend (λ e. a n * c e ≤ a e * c n) n (λ e h. cross (a n) (c n) (a b) (c b) (a e) (c e) (l .1) (omega arith) (l .2 e h)) (omega arith),
         )
     next b l false q = (omega arith, l .1, extend (λ e. a b * c e ≤ a e * c b) n (l .2) (ltb-false (a n * c b) (a b * c n) q))
@@ -120,8 +116,8 @@ module _ (w : Net) (z : State) (A C : ℕ → ℕ) (hA : (e : ℕ) → e < w .li
         chosen = λ s h. is-chosen s;
         all = λ s h. all-chosen s;
         den = rw (hC b (least .0)) refl;
-        hit = λ s h t. (table-at (w .sessions) s _ 0 h ∙ cond-hit (chosen w A C b z s) _ _ t ∙ ap (λ v. v * w .weight s) (hA b (least .0)), table-at (w .sessions) s _ false h ∙ or-hit (isFixed z s) (chosen w A C b z s) t);
-        miss = λ s h t. (table-at (w .sessions) s _ 0 h ∙ cond-miss (chosen w A C b z s) _ _ t ∙ ap (λ v. v * rate z s) (hC b (least .0)), table-at (w .sessions) s _ false h ∙ or-miss (isFixed z s) (chosen w A C b z s) t);
+        hit = λ s h t. (values-at (w .sessions) s _ 0 h ∙ cond-hit (chosen w A C b z s) _ _ t ∙ ap (λ v. v * w .weight s) (hA b (least .0)), values-at (w .sessions) s _ false h ∙ or-hit (isFixed z s) (chosen w A C b z s) t);
+        miss = λ s h t. (values-at (w .sessions) s _ 0 h ∙ cond-miss (chosen w A C b z s) _ _ t ∙ ap (λ v. v * rate z s) (hC b (least .0)), values-at (w .sessions) s _ false h ∙ or-miss (isFixed z s) (chosen w A C b z s) t);
       }
 
 -- what holds after each round; the bound on the denominator where there are at most 32 sessions
@@ -163,10 +159,10 @@ round-goes w each z i = go (smallest A C (w .links)) (smallest-least A C (w .lin
     C e = getD (counts w z) e 0
 
     hA : (e : ℕ) → e < w .links → A e ≡ leftAt w (z .den) (rate z) e
-    hA e h = table-at (w .links) e _ 0 h
+    hA e h = values-at (w .links) e _ 0 h
 
     hC : (e : ℕ) → e < w .links → C e ≡ openAt w (isFixed z) e
-    hC e h = table-at (w .links) e _ 0 h
+    hC e h = values-at (w .links) e _ 0 h
 
     go : (p : Pick) → Least A C (w .links) p
         → StateFilling w (fixAt w A C z p) × ((openAll w (isFixed (fixAt w A C z p)) < openAll w (isFixed z)) ⊎ (openAll w (isFixed (fixAt w A C z p)) ≡ 0))
@@ -183,10 +179,6 @@ round-goes w each z i = go (smallest A C (w .links)) (smallest-least A C (w .lin
 pub all-fixed : (w : Net) → Crosses w → (d : ℕ → Bool) → openAll w d ≡ 0 → (s : ℕ) → s < w .sessions → T (d s)
 unfolding openAll
 all-fixed w each d h s hs = part-not (d s) (w .weight s) (each s hs .3) (omega (arith, sum-at (w .sessions) (λ s. part (not (d s)) (w .weight s)) s hs))
-
-pub load-none : (w : Net) (e : ℕ) → loadAt w (λ s. 0) e ≡ 0
-unfolding loadAt
-load-none w e = sum-none (w .sessions) _ (λ s hs. part-zero (w .on e s))
 
 pub filled : (w : Net) → Crosses w → (k : ℕ) (z : State) → StateFilling w z → openAll w (isFixed z) ≤ k
     → StateFilling w (rounds w k z) × (openAll w (isFixed (rounds w k z)) ≡ 0)

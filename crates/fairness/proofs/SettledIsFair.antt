@@ -9,7 +9,7 @@ use native.Mathlib.Nat.{eq-of-mul-eq-mul-right, le-of-mul-le-mul-right}
 use native.Mathlib.Omega.{arith}
 use lib.Dec.{T}
 use Rattle.fairness.specs.MaxMin.{Active, Bottleneck, MaxMinFair, Problem, Restricted, used}
-use Rattle.fairness.specs.Settled.{Settled, SettledLink, sizeR, sumF}
+use Rattle.fairness.specs.Settled.{SettledLink, SettledRates, sizeR, sumF}
 use Rattle.fairness.specs.Sum.{part}
 use Rattle.fairness.proofs.Criterion.{bottleneck-criterion}
 use Rattle.fairness.proofs.Sums.{sum-add, sum-at, sum-eq, sum-find, sum-scale}
@@ -94,8 +94,8 @@ module _ (p : Problem) (N : ℕ) (x : ℕ → ℕ) (e : ℕ) (R : ℕ → Bool) 
   pub settled-bottleneck : e < p .links → (s : ℕ) → Active p s → T (p .crosses e s) → T (R s) → Bottleneck p N x s e
   settled-bottleneck b s h c r = record { is-link = b; crosses = c; full = full s h c r; most = most s h c r }
 
--- a settled table has the max-min fair rates
-pub settled-is-fair : (p : Problem) (N : ℕ) (x : ℕ → ℕ) (R : ℕ → ℕ → Bool) → Settled p N x R → MaxMinFair p N x
+-- a settled values has the max-min fair rates
+pub settled-is-fair : (p : Problem) (N : ℕ) (x : ℕ → ℕ) (R : ℕ → ℕ → Bool) → SettledRates p N x R → MaxMinFair p N x
 settled-is-fair p N x R z =
     bottleneck-criterion p N x
     (record { pos = z .pos; fits = λ e h. settled-fits p N x e (R e) (z .links e h); own = z .own })

@@ -3,7 +3,7 @@
 use mathlib.Core.Bool.{Bool, _&&_, _||_, cond, false, not, true}
 use mathlib.Core.Logic.{_⊎_, inl, inr}
 use mathlib.Core.Path.{_≡_, refl}
-use Prim.Native.Nat.{ℕ, suc, _≤_, _<_}
+use Prim.Native.Nat.{ℕ, zero, suc, _*_, _≤_, _<_}
 use native.Mathlib.Decide.{decLe}
 use native.Mathlib.Omega.{arith}
 use lib.Dec.{T, eqb}
@@ -34,6 +34,15 @@ extend P n f p i h = go (last h)
     go : (i < n) ⊎ (i ≡ n) → P i
     go (inl l) = f i l
     go (inr e) = rw e p
+
+-- a product above zero has no factor zero
+pub pos-left : (a c : ℕ) → 0 < a * c → 0 < a
+pos-left zero c h = absurd (omega arith)
+pos-left (suc a) c h = omega arith
+
+pub pos-right : (a c : ℕ) → 0 < a * c → 0 < c
+pos-right a zero h = absurd (omega arith)
+pos-right a (suc c) h = omega arith
 
 -- TESTS ---------------------------------------------------------------------------------------------------------------
 

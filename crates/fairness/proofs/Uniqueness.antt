@@ -8,7 +8,7 @@ use native.Mathlib.Nat.{eq-of-mul-eq-mul-right, le-of-mul-le-mul-right, lt-of-mu
 use native.Mathlib.Omega.{arith}
 use Rattle.fairness.specs.MaxMin.{Active, Lowered, MaxMinFair, Problem}
 use Rattle.fairness.proofs.Nets.{Takes}
-use Rattle.fairness.proofs.Tests.{order}
+use Rattle.fairness.proofs.Tests.{order, pos-left}
 
 -- over any set S of sessions: below k they agree, so at k nobody gains
 climb : (S : ℕ → Type 0) (N : ℕ) (x : ℕ → ℕ) (M : ℕ) (y : ℕ → ℕ) → ((s : ℕ) → S s → x s * M < y s * N → Takes S (λ s. 1) N x M y s)
@@ -44,13 +44,9 @@ pub record Common (S : ℕ → Type 0) (weight : ℕ → ℕ) : Type 0 where
   pub pos : 0 < of
   pub is : (s : ℕ) → S s → times s * weight s ≡ of
 
-positive-left : (a c : ℕ) → 0 < a * c → 0 < a
-positive-left zero c h = absurd (omega arith)
-positive-left (suc a) c h = omega arith
-
 module _ (S : ℕ → Type 0) (weight : ℕ → ℕ) (c : Common S weight) where
   times-pos : (s : ℕ) → S s → 0 < c .times s
-  times-pos s h = positive-left (c .times s) (weight s) (omega (arith, c .is s h, c .pos))
+  times-pos s h = pos-left (c .times s) (weight s) (omega (arith, c .is s h, c .pos))
 
   -- rates per weight, on the common multiple
   per : (a b s t : ℕ) → S s → S t → a * weight s ≤ b * weight t → a * c .times t ≤ b * c .times s

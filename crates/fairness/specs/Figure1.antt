@@ -7,7 +7,7 @@ use mathlib.Core.List.{List, [], _∷_}
 use Prim.Native.Nat.{ℕ, zero, suc, _+_, _-_, _*_}
 use lib.Dec.{eqb, ltb}
 use lib.ListN.{getD}
-use Rattle.fairness.specs.MaxMin.{Problem}
+use Rattle.fairness.specs.MaxMin.{Problem, ofLink}
 use Rattle.fairness.specs.Sum.{part, sum}
 
 -- THE LINKS, WITH D AMONG THEM ----------------------------------------------------------------------------------------
@@ -27,7 +27,7 @@ net p =
       links = p .links + p .sessions;
       sessions = p .sessions;
       capacity = λ e. cond (ltb e (p .links)) (p .capacity e) (part (p .active (e - p .links)) (p .D (e - p .links)));
-      on = λ e s. cond (ltb e (p .links)) (p .active s && p .crosses e s) (eqb e (p .links + s));
+      on = λ e s. cond (ltb e (p .links)) (ofLink p e s) (eqb e (p .links + s));
       weight = λ s. 1;
     }
 
@@ -39,7 +39,7 @@ loadAt w x e = sum (w .sessions) (λ s. part (w .on e s) (x s))
 unfoldable pub leftAt : Net → ℕ → (ℕ → ℕ) → ℕ → ℕ
 leftAt w N x e = N * w .capacity e - loadAt w x e
 
--- |R_e|: the sessions at e that are not fixed (d: fixed), each with its weight
+-- |R_e|: the sessions at e that are not fixed (d: fixed), each counted with its weight of 1
 unfoldable pub openAt : Net → (ℕ → Bool) → ℕ → ℕ
 openAt w d e = sum (w .sessions) (λ s. part (w .on e s) (part (not (d s)) (w .weight s)))
 
@@ -50,9 +50,9 @@ openAll w d = sum (w .sessions) (λ s. part (not (d s)) (w .weight s))
 -- ONE ROUND -----------------------------------------------------------------------------------------------------------
 
 -- the list of f i .. f (i + n - 1)
-unfoldable pub table : {A : Type 0} → ℕ → ℕ → (ℕ → A) → List A
-table i zero f = []
-table i (suc n) f = f i ∷ table (suc i) n f
+unfoldable pub values : {A : Type 0} → ℕ → ℕ → (ℕ → A) → List A
+values i zero f = []
+values i (suc n) f = f i ∷ values (suc i) n f
 
 -- how far the rounds are: the rates times den, and who is fixed
 pub record State : Type 0 where
@@ -66,17 +66,17 @@ rate z s = getD (z .rates) s 0
 abbrev pub isFixed : State → ℕ → Bool
 isFixed z s = getD (z .fixed) s false
 
--- a link, where some link has a session that is not fixed
+-- a link of L, or that L is empty
 pub data Pick : Type 0 where
   nobody : Pick
   at : ℕ → Pick
 
--- the link with the smaller share a / c of e and the one found so far; a link with nobody to fix has none
+-- of link e and the one found so far the one whose share a / c is smaller; "L ← {e ∈ E : R_e ≠ ∅}": a link with nobody to fix has c = 0 and is never taken
 unfoldable pub smaller : (ℕ → ℕ) → (ℕ → ℕ) → ℕ → Pick → Pick
 smaller a c e nobody = cond (ltb 0 (c e)) (at e) nobody
 smaller a c e (at b) = cond (ltb (a e * c b) (a b * c e)) (at e) (at b)
 
--- "B ← min {B_e}": the first of the links below n that has the smallest share
+-- "B ← min_{e ∈ L} {B_e}": the first of the links below n that has the smallest share
 unfoldable pub smallest : (ℕ → ℕ) → (ℕ → ℕ) → ℕ → Pick
 smallest a c zero = nobody
 smallest a c (suc e) = smaller a c e (smallest a c e)
@@ -86,26 +86,27 @@ unfoldable pub any : ℕ → (ℕ → Bool) → Bool
 any zero f = false
 any (suc n) f = f n || any n f
 
--- "L' ← {e : B_e = B}; X ← ∪_{e ∈ L'} R_e": s is not fixed, and is on a link whose share is that of b
+-- "L' ← {e ∈ L : B_e = B}; X ← ∪_{e ∈ L'} R_e": s is not fixed, and is on a link whose share is that of b
 unfoldable pub chosen : Net → (a c : ℕ → ℕ) → ℕ → State → ℕ → Bool
 chosen w a c b z s = not (isFixed z s) && any (w .links) (λ e. w .on e s && eqb (a e * c b) (a b * c e))
 
--- "for each s ∈ X do λ_s ← B": B is a b / (den * c b), so the new denominator is den * c b
+-- "for each s ∈ X do λ_s ← B": B is a b / (den * c b), so the new denominator is den * c b.
+-- "F_e ← F_e ∪ (R_e ∩ X); R_e ← R_e \ F_e; L ← {e ∈ (L \ L') : R_e ≠ ∅}": the sessions of X are fixed from now on, at every link
 unfoldable pub fixAt : Net → (a c : ℕ → ℕ) → State → Pick → State
 fixAt w a c z nobody = z
 fixAt w a c z (at b) =
     record {
       den = z .den * c b;
-      rates = table 0 (w .sessions) (λ s. cond (chosen w a c b z s) (a b * w .weight s) (c b * rate z s));
-      fixed = table 0 (w .sessions) (λ s. isFixed z s || chosen w a c b z s);
+      rates = values 0 (w .sessions) (λ s. cond (chosen w a c b z s) (a b * w .weight s) (c b * rate z s));
+      fixed = values 0 (w .sessions) (λ s. isFixed z s || chosen w a c b z s);
     }
 
 -- "for each e ∈ L do B_e ← (C_e - Σ_{s ∈ F_e} λ_s) / |R_e|": numerators and denominators
 unfoldable pub lefts : Net → State → List ℕ
-lefts w z = table 0 (w .links) (leftAt w (z .den) (rate z))
+lefts w z = values 0 (w .links) (leftAt w (z .den) (rate z))
 
 unfoldable pub counts : Net → State → List ℕ
-counts w z = table 0 (w .links) (openAt w (isFixed z))
+counts w z = values 0 (w .links) (openAt w (isFixed z))
 
 unfoldable pub roundOn : Net → State → List ℕ → List ℕ → State
 roundOn w z ls cs = fixAt w (λ e. getD ls e 0) (λ e. getD cs e 0) z (smallest (λ e. getD ls e 0) (λ e. getD cs e 0) (w .links))
@@ -122,7 +123,7 @@ rounds w (suc k) z = let r = rounds w k (oneRound w z) in cond (ltb 0 (openAll w
 
 -- "R_e ← S_e; F_e ← ∅": nobody has a rate yet, and those that are not active count as fixed
 unfoldable pub begin : Problem → State
-begin p = record { den = 1; rates = []; fixed = table 0 (p .sessions) (λ s. not (p .active s)) }
+begin p = record { den = 1; rates = []; fixed = values 0 (p .sessions) (λ s. not (p .active s)) }
 
 -- every round fixes a session, so as many rounds as sessions are enough
 unfoldable pub figure1 : Problem → State

@@ -1,5 +1,6 @@
--- Links and sessions, and what it means that rates are feasible, max-min fair, or held by a bottleneck. Follows demand 2 of the order (00) and
--- Definition 1 of 001. An allocation gives session s the rate x s / N, all over one denominator N: any finitely many fractions can be written so.
+-- Links and sessions, and what it means that rates are feasible, max-min fair, or restricted by a bottleneck. Follows demand 2 of the order (00) and
+-- Definition 1 of 001. An allocation gives session s the rate x s / N, all over one denominator N: any finitely many fractions can be written so
+-- (`together` in proofs/CommonDenominator).
 -- Assumes nothing: definitions.
 use mathlib.Core.Bool.{Bool, _&&_}
 use mathlib.Core.Logic.{_⊎_}
@@ -8,8 +9,8 @@ use Prim.Native.Nat.{ℕ, _*_, _≤_, _<_}
 use lib.Dec.{T}
 use Rattle.fairness.specs.Sum.{part, sum}
 
--- links 0 .. links-1 with their capacities C; sessions 0 .. sessions-1, which of them are active, each one's own limit D
--- (01: the smaller of its access rate and its maximum), and which link lies on whose path
+-- links 0 .. links-1 with their capacities C; sessions 0 .. sessions-1, which of them are active, each one's own limit D (01: the smaller of its
+-- access rate and its maximum, or the access rate where there is no maximum), and by `crosses e s` whether link e lies on the path of session s
 pub record Problem : Type 0 where
   pub links : ℕ
   pub sessions : ℕ
@@ -22,9 +23,13 @@ pub record Problem : Type 0 where
 abbrev pub Active : Problem → ℕ → Type 0
 Active p s = (s < p .sessions) × T (p .active s)
 
--- N times what link e carries: the sum over the active sessions whose path has e
+-- 001: s is in S_e, the active sessions that cross link e
+abbrev pub ofLink : Problem → ℕ → ℕ → Bool
+ofLink p e s = p .active s && p .crosses e s
+
+-- N times what link e carries: the sum over S_e
 unfoldable pub used : Problem → (ℕ → ℕ) → ℕ → ℕ
-used p x e = sum (p .sessions) (λ s. part (p .active s && p .crosses e s) (x s))
+used p x e = sum (p .sessions) (λ s. part (ofLink p e s) (x s))
 
 -- "no line carries more than its capacity, no session exceeds its own line or maximum"
 pub record Feasible (p : Problem) (N : ℕ) (x : ℕ → ℕ) : Type 0 where
@@ -44,7 +49,7 @@ pub record MaxMinFair (p : Problem) (N : ℕ) (x : ℕ → ℕ) : Type 0 where
   pub feasible : Feasible p N x
   pub fair : (M : ℕ) (y : ℕ → ℕ) → Feasible p M y → (s : ℕ) → Active p s → x s * M < y s * N → Lowered p N x M y s
 
--- 001, Definition 1: e is a bottleneck of s: it lies on the path of s, is fully used, and no session on it has more than s
+-- 001, Definition 1: e is a bottleneck of an active session s: it lies on the path of s, is fully used, and no session on it has more than s
 pub record Bottleneck (p : Problem) (N : ℕ) (x : ℕ → ℕ) (s e : ℕ) : Type 0 where
   pub is-link : e < p .links
   pub crosses : T (p .crosses e s)

@@ -54,10 +54,10 @@ le-add a b ha hb =
     (le-of-same (same-sym (lowest-same _ _)))
 
 -- a sum keeps a common denominator
-pub add-den : (a b : Rate) (D : ℕ) → 0 < a .den → 0 < b .den → a .den ∣ D → b .den ∣ D → (addOf a b) .den ∣ D
+pub add-den : (a b : Rate) (N : ℕ) → 0 < a .den → 0 < b .den → a .den ∣ N → b .den ∣ N → (addOf a b) .den ∣ N
 unfolding addOf
-add-den a b D ha hb p q =
-    den-divides (a .num * (D / a .den) + b .num * (D / b .den)) D (add-lowest a b ha hb)
+add-den a b N ha hb p q =
+    den-divides (a .num * (N / a .den) + b .num * (N / b .den)) N (add-lowest a b ha hb)
     (same-trans (mul-pos ha hb) (lowest-same _ _)
     (record {
       cross =

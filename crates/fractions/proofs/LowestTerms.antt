@@ -1,8 +1,8 @@
 -- Lowest terms: every value has them, and has one; the denominator in lowest terms divides every denominator of the value.
 -- Assumes nothing.
 use mathlib.Core.Path.{_≡_, sym, ap, subst, _∙_}
-use Prim.Native.Nat.{ℕ, _*_, _<_, _∣_}
-use native.Mathlib.Nat.{div-mul-cancel, pos-of-dvd-of-pos, dvd-mul-right, dvd-mul-left, dvd-antisymm, mul-dvd-mul-right, dvd-of-mul-dvd-mul-right, eq-of-mul-eq-mul-right, one-dvd, one-mul}
+use Prim.Native.Nat.{ℕ, _*_, _≤_, _<_, _∣_}
+use native.Mathlib.Nat.{div-mul-cancel, pos-of-dvd-of-pos, dvd-mul-right, dvd-mul-left, dvd-antisymm, mul-dvd-mul-right, dvd-of-mul-dvd-mul-right, eq-of-mul-eq-mul-right, le-of-dvd, one-dvd, one-mul}
 use native.Mathlib.Omega.{arith}
 use Rattle.fractions.specs.Divisor.{gcdOf}
 use Rattle.fractions.specs.Fraction.{Lowest, Le, Same, frac, wholeOf, lowestOf}
@@ -52,6 +52,10 @@ lowest-lowest n d h =
 pub den-divides : {a : Rate} (m e : ℕ) → Lowest a → Same a (frac m e) → a .den ∣ e
 den-divides {a} m e l s =
     euclid e (l .coprime) (subst (λ (x : ℕ). a .den ∣ x) (sym (s .cross)) (dvd-mul-left (a .den) m))
+
+-- so it is no greater
+pub lowest-den : {a : Rate} (m e : ℕ) → 0 < e → Lowest a → Same a (frac m e) → a .den ≤ e
+lowest-den m e pos l s = le-of-dvd pos (den-divides m e l s)
 
 -- lowest terms are unique: two rates in lowest terms of one value have the same numerator and the same denominator
 pub lowest-unique : {a b : Rate} → Lowest a → Lowest b → Same a b → a ≡ b

@@ -7,7 +7,7 @@ use Prim.Native.Nat.{ℕ, _*_, _<_}
 use native.Mathlib.Nat.{mul-le-mul-right, mul-lt-mul-of-pos-right, le-of-mul-le-mul-right, lt-of-mul-lt-mul-right, eq-of-mul-eq-mul-right}
 use native.Mathlib.Decide.{decLe}
 use native.Mathlib.Omega.{arith}
-use borrow.Author.Tests.{leb-true, leb-false, le-leb, lt-leb, ltb-true, ltb-false, lt-ltb}
+use borrow.Author.Tests.{leb-true, leb-false, le-leb, lt-leb, ltb-true, ltb-false, lt-ltb, le-ltb}
 use Rattle.fractions.specs.Fraction.{Same, Le, Lt, leOf, ltOf}
 use Rattle.fractions.specs.declared.Rate.{Rate}
 
@@ -88,3 +88,6 @@ lt-false e = record { cross = ltb-false _ _ e }
 
 pub true-lt : {a b : Rate} → Lt a b → ltOf a b ≡ true
 true-lt h = lt-ltb _ _ (h .cross)
+
+pub false-lt : {a b : Rate} → Le b a → ltOf a b ≡ false
+false-lt h = le-ltb _ _ (h .cross)

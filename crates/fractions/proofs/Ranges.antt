@@ -1,58 +1,67 @@
 -- Rates within bounds: their products fit, the test of a rate is exact, and a sum is within the sum of the bounds.
 -- Assumes nothing.
-use mathlib.Core.Path.{_≡_, refl, sym, subst}
-use mathlib.Core.Bool.{Bool, true, false, _&&_}
-use Prim.Native.Nat.{ℕ, _+_, _*_, _^_, _≤_}
+use mathlib.Core.Path.{_≡_, refl, sym, ap, ap₂, subst}
+use mathlib.Core.Bool.{Bool, _&&_, cond, false, true}
+use Prim.Native.Nat.{ℕ, _+_, _*_, _^_, _≤_, _<_}
 use native.Mathlib.Nat.{mul-le-mul, mul-le-mul-right, mul-pos, le-of-mul-le-mul-right}
 use native.Mathlib.Omega.{arith}
-use borrow.Author.Tests.{ltb-true, leb-true, eqb-true, eq-eqb, lt-ltb, le-leb}
+use borrow.Author.Tests.{ltb-true, leb-true, leb-false, eqb-true, eq-eqb, lt-ltb, le-leb}
 use lib.Dec.{lit≤}
 use Rattle.fractions.specs.Divisor.{IsGcd}
-use Rattle.fractions.specs.Fraction.{Within, limit, maxRate, Lowest, wholeOf, pick, fineOf, addOf, plusOf, sameOf, isRateOf}
+use Rattle.fractions.specs.Fraction.{Within, limit, maxDen, maxRate, Lowest, wholeOf, fineOf, addOf, plusOf, sameOf, isRateOf}
 use Rattle.fractions.specs.declared.Rate.{Rate}
 use Rattle.fractions.specs.declared.Sum.the-variants as sum
 use Rattle.fractions.proofs.Divisors.{gcd-is, gcd-unique}
-use Rattle.fractions.proofs.LowestTerms.{lowest-same, lowest-pos, lowest-lowest, lowest-unique, whole-lowest}
+use Rattle.fractions.proofs.LowestTerms.{lowest-same, lowest-lowest, lowest-unique, whole-lowest}
 
 -- a cross product of two rates is far below 2 ^ 64, and so is the sum of two
 pub cross-fits : {a b : Rate} → Within limit a → Within limit b → a .num * b .den ≤ 2 ^ 62
 cross-fits wa wb = omega (arith, mul-le-mul (wa .num) (wb .den))
 
 pub within-lowest : {m : ℕ} {a : Rate} → Within m a → Lowest a
-within-lowest w = record { pos = w .pos; coprime = w .coprime }
+within-lowest w = w .lowest
 
 pub within-more : {m n : ℕ} {a : Rate} → m ≤ n → Within m a → Within n a
 within-more {m} {n} {a} h w =
-    record { pos = w .pos; coprime = w .coprime; den = w .den; num = omega (arith, mul-le-mul-right (a .den) h, w .num) }
+    record { lowest = w .lowest; den = w .den; num = omega (arith, mul-le-mul-right (a .den) h, w .num) }
 
 pub whole-within : {m n : ℕ} → n ≤ m → Within m (wholeOf n)
 whole-within {m} {n} h =
-    record { pos = omega arith; coprime = whole-lowest n .coprime; den = lit≤ tt; num = omega arith }
+    record { lowest = whole-lowest n; den = lit≤ tt; num = omega arith }
 
--- a test that chose the first
-picked : {A : Type 0} {x y z : A} (t : Bool) → pick t x y ≡ z → (y ≡ z → ⊥) → (t ≡ true) × (x ≡ z)
-picked true e n = (refl, e)
-picked false e n = absurd (n e)
+-- what a test chose
+pub chose-first : {A : Type 0} {x y z : A} (t : Bool) → cond t x y ≡ z → (y ≡ z → ⊥) → (t ≡ true) × (x ≡ z)
+chose-first true e n = (refl, e)
+chose-first false e n = absurd (n e)
+
+pub chose-second : {A : Type 0} {x z : A} (y : A) (t : Bool) → cond t x y ≡ z → (x ≡ z → ⊥) → t ≡ false
+chose-second y true e n = absurd (n e)
+chose-second y false e n = refl
 
 -- a sum that comes back as a rate is the sum, and its denominator is within the limit
-pub plus-rate : (a b : Rate) {s : Rate} → plusOf a b ≡ sum.Rate s → (addOf a b ≡ s) × (s .den ≤ 1048576)
+pub plus-rate : (a b : Rate) {s : Rate} → plusOf a b ≡ sum.Rate s → (addOf a b ≡ s) × (s .den ≤ maxDen)
 unfolding plusOf
 plus-rate a b {s} e =
-    let p = picked (fineOf (addOf a b)) e (λ q. let z : _≡_ {A = ℕ} 0 1 = cc in omega arith) in
+    let p = chose-first (fineOf (addOf a b)) e (λ q. let z : _≡_ {A = ℕ} 0 1 = cc in omega arith) in
     let q : addOf a b ≡ s = cc in
-    (q, subst (λ (r : Rate). r .den ≤ 1048576) q (leb-true _ _ (p .0)))
+    (q, subst (λ (r : Rate). r .den ≤ maxDen) q (leb-true _ _ (p .0)))
+
+-- and one that does not is too fine
+pub plus-too-fine : (a b : Rate) → plusOf a b ≡ sum.TooFine → maxDen < (addOf a b) .den
+unfolding plusOf
+plus-too-fine a b e =
+    leb-false _ _ (chose-second sum.TooFine (fineOf (addOf a b)) e (λ q. let z : _≡_ {A = ℕ} 0 1 = cc in omega arith))
 
 -- a sum of values is no greater than the sum of their bounds
 pub plus-within : {m n : ℕ} {a b s : Rate} → Within m a → Within n b → plusOf a b ≡ sum.Rate s → Within (m + n) s
 unfolding addOf
 plus-within {m} {n} {a} {b} {s} wa wb e =
     let f = plus-rate a b e in
-    let hD = mul-pos (wa .pos) (wb .pos) in
+    let hD = mul-pos (wa .lowest .pos) (wb .lowest .pos) in
     subst (Within (m + n)) (f .0)
     (record {
-      pos = lowest-pos _ _ hD;
-      coprime = lowest-lowest _ _ hD .coprime;
-      den = subst (λ (r : Rate). r .den ≤ 1048576) (sym (f .0)) (f .1);
+      lowest = lowest-lowest _ _ hD;
+      den = subst (λ (r : Rate). r .den ≤ maxDen) (sym (f .0)) (f .1);
       num =
           le-of-mul-le-mul-right {k = a .den * b .den}
           (omega (
@@ -64,7 +73,10 @@ plus-within {m} {n} {a} {b} {s} wa wb e =
           hD;
     })
 
--- the test of the values says whether two rates are one
+-- two rates are one exactly where the test of their values passes
+pub true-same : {a b : Rate} → a ≡ b → sameOf a b ≡ true
+true-same {a} {b} e = eq-eqb _ _ (ap₂ _*_ (ap (λ (r : Rate). r .num) e) (sym (ap (λ (r : Rate). r .den) e)))
+
 pub same-true : {m n : ℕ} {a b : Rate} → Within m a → Within n b → sameOf a b ≡ true → a ≡ b
 same-true wa wb e = lowest-unique (within-lowest wa) (within-lowest wb) (record { cross = eqb-true _ _ e })
 
@@ -80,8 +92,11 @@ is-rate-within {a} e =
     let q = both-true _ _ (p .1) in
     let r = both-true _ _ (q .1) in
     record {
-      pos = ltb-true _ _ (p .0);
-      coprime = subst (IsGcd (a .num) (a .den)) (eqb-true _ _ (r .1)) (gcd-is (a .num) (a .den));
+      lowest =
+          record {
+            pos = ltb-true _ _ (p .0);
+            coprime = subst (IsGcd (a .num) (a .den)) (eqb-true _ _ (r .1)) (gcd-is (a .num) (a .den));
+          };
       den = leb-true _ _ (q .0);
       num = leb-true _ _ (r .0);
     }
@@ -89,4 +104,4 @@ is-rate-within {a} e =
 pub within-is-rate : {a : Rate} → Within maxRate a → isRateOf a ≡ true
 unfolding isRateOf
 within-is-rate w =
-    simp (lt-ltb _ _ (w .pos), le-leb _ _ (w .den), le-leb _ _ (w .num), eq-eqb _ _ (sym (gcd-unique (w .coprime))))
+    simp (lt-ltb _ _ (w .lowest .pos), le-leb _ _ (w .den), le-leb _ _ (w .num), eq-eqb _ _ (sym (gcd-unique (w .lowest .coprime))))

@@ -2,7 +2,7 @@
 -- Answers are in lowest terms, so two answers of one value are equal; `Same`, `Le` and `Lt` speak of the values.
 -- Assumes nothing: definitions.
 use mathlib.Core.Path.{_≡_}
-use mathlib.Core.Bool.{Bool, true, false, _&&_}
+use mathlib.Core.Bool.{Bool, _&&_, cond}
 use Prim.Native.Nat.{ℕ, _+_, _-_, _*_, _/_, _≤_, _<_}
 use lib.Dec.{leb, ltb, eqb}
 use Rattle.fractions.specs.Divisor.{IsGcd, gcdOf}
@@ -42,12 +42,11 @@ pub record Lowest (a : Rate) : Type 0 where
 
 -- a rate of at most m: in lowest terms, with a denominator within the limit
 pub record Within (m : ℕ) (a : Rate) : Type 0 where
-  pub pos : 0 < a .den
-  pub coprime : IsGcd (a .num) (a .den) 1
+  pub lowest : Lowest a
   pub den : a .den ≤ maxDen
   pub num : a .num ≤ m * a .den
 
--- the largest value that comparisons and sums take: up to here their products fit 64 bits
+-- the largest value that comparisons and sums take: room for some rates together, and their products still fit 64 bits
 abbrev pub limit : ℕ
 limit = 4000000
 
@@ -61,11 +60,11 @@ isRateOf a = ltb 0 (a .den) && (leb (a .den) maxDen && (leb (a .num) (maxRate * 
 pub record Same (a b : Rate) : Type 0 where
   pub cross : a .num * b .den ≡ b .num * a .den
 
--- no greater a value
+-- the value of a is no greater than that of b
 pub record Le (a b : Rate) : Type 0 where
   pub cross : a .num * b .den ≤ b .num * a .den
 
--- a smaller value
+-- the value of a is less than that of b
 pub record Lt (a b : Rate) : Type 0 where
   pub cross : a .num * b .den < b .num * a .den
 
@@ -89,18 +88,13 @@ lowestOf n d = record { num = n / gcdOf n d; den = d / gcdOf n d }
 abbrev pub fineOf : Rate → Bool
 fineOf a = leb (a .den) maxDen
 
--- the first where the test passes, else the second
-abbrev pub pick : {A : Type 0} → Bool → A → A → A
-pick true a b = a
-pick false a b = b
-
 -- a + b in lowest terms
 unfoldable pub addOf : Rate → Rate → Rate
 addOf a b = lowestOf (a .num * b .den + b .num * a .den) (a .den * b .den)
 
 -- a + b, or that its denominator is over the limit (01, refusal 12)
 unfoldable pub plusOf : Rate → Rate → Sum
-plusOf a b = pick (fineOf (addOf a b)) (sum.Rate (addOf a b)) sum.TooFine
+plusOf a b = cond (fineOf (addOf a b)) (sum.Rate (addOf a b)) sum.TooFine
 
 -- k times a, in lowest terms
 unfoldable pub timesOf : ℕ → Rate → Rate
@@ -120,4 +114,4 @@ eachOf c t k = lowestOf (c * t .den - t .num) (t .den * k)
 
 -- a link's share, or that its denominator is over the limit
 unfoldable pub shareOf : ℕ → Rate → ℕ → Share
-shareOf c t k = pick (fineOf (eachOf c t k)) (share.Rate (eachOf c t k)) share.TooFine
+shareOf c t k = cond (fineOf (eachOf c t k)) (share.Rate (eachOf c t k)) share.TooFine

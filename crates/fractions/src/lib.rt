@@ -2,7 +2,7 @@
 ghost use mathlib.Core.Path.{_≡_};
 ghost use Prim.Native.Nat.{ℕ, _*_, _≤_, _<_};
 ghost use Rattle.fractions.specs.Divisor.{IsGcd};
-ghost use Rattle.fractions.specs.Fraction.{Within, limit, maxRate, isRateOf, leOf, ltOf, sameOf, zeroOf, wholeOf, lowestOf, fineOf, plusOf, leftOf, amongOf, shareOf};
+ghost use Rattle.fractions.specs.Fraction.{Within, limit, maxDen, maxRate, isRateOf, leOf, ltOf, sameOf, zeroOf, wholeOf, lowestOf, fineOf, plusOf, leftOf, amongOf, shareOf};
 
 // A rate in kbit/s.
 pub struct Rate {
@@ -160,7 +160,7 @@ impl Rate {
         }
     }
 
-    // A link's share: what is left of its capacity over what is taken, for each of count sessions.
+    // A link's share: what is left of its capacity when what is taken is gone, for each of count sessions.
     pub fn share(capacity: u64, taken: Rate, count: u64) -> Share
         requires { ⌜ Within maxRate taken × (capacity ≤ maxRate) × (taken .num ≤ capacity * taken .den) × (0 < count) × (count ≤ 32) ⌝ }
         ensures { λ r. ⌜ r ≡ shareOf capacity taken count ⌝ }
@@ -180,7 +180,7 @@ impl Rate {
 impl Part {
     // What is left of a capacity.
     pub fn left(capacity: u64, taken: Rate) -> Part
-        requires { ⌜ (taken .num ≤ capacity * taken .den) × (taken .den ≤ 1048576) × (capacity ≤ maxRate) ⌝ }
+        requires { ⌜ (taken .num ≤ capacity * taken .den) × (taken .den ≤ maxDen) × (capacity ≤ maxRate) ⌝ }
         ensures { λ r. ⌜ r ≡ leftOf capacity taken ⌝ }
     {
         let n = taken.num;
@@ -194,7 +194,7 @@ impl Part {
 
     // What each of count sessions gets of it.
     pub fn among(self, count: u64) -> Part
-        requires { ⌜ (self .den ≤ 1099511627776) × (count ≤ 32) ⌝ }
+        requires { ⌜ (self .den ≤ maxDen) × (count ≤ 32) ⌝ }
         ensures { λ r. ⌜ r ≡ amongOf self count ⌝ }
     {
         let n = self.num;

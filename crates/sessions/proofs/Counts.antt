@@ -46,7 +46,7 @@ unfolding has
 ones-pos zero w h = omega (arith, ones-step w)
 ones-pos (suc s) w h = omega (arith, ones-step w, ones-pos s (w / 2) h)
 
--- fewer members, a smaller count
+-- no members more, no greater a count
 pub ones-mono : (k v w : ℕ) → v < 2 ^ k → w < 2 ^ k → ((s : ℕ) → s < k → has s v ≤ has s w) → ones v ≤ ones w
 unfolding has
 ones-mono zero v w a b h = omega (arith, ap ones {x = v} {y = w} (omega arith))

@@ -1,4 +1,4 @@
--- What the machine's operations on words do to the members: `|`, `&`, `!`, `<<`, `>>`, and `w & (w - 1)`.
+-- What the operations on words do to the members: `|`, `&`, `!`, `<<` and `>>`.
 -- Assumes nothing.
 use mathlib.Core.Path.{_≡_, sym, ap, ap₂, _∙_}
 use Prim.Native.Nat.{ℕ, zero, suc, _+_, _-_, _*_, _/_, _%_, _^_, _≤_, _<_, min, max}

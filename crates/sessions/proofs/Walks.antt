@@ -4,11 +4,11 @@ use mathlib.Core.List.{List, [], _∷_}
 use mathlib.Core.Logic.{_⊎_, ⊎-elim}
 use mathlib.Core.Path.{_≡_, refl, sym, ap, ap₂, _∙_}
 use Prim.Native.Nat.{ℕ, zero, suc, _+_, _*_, _/_, _%_, _^_, _<_, suc-le-suc}
-use native.Mathlib.Nat.{pow-suc, add-zero, zero-add}
+use native.Mathlib.Nat.{pow-suc, add-zero, zero-add, add-mul}
 use native.Mathlib.Omega.{arith}
 use lib.Count.{ones, ones-step, trailingZeros}
 use lib.ListN.{length}
-use Rattle.sessions.specs.Set.{has, cut, membersFrom, members, nextOf, walk}
+use Rattle.sessions.specs.Set.{has, cut, membersFrom, walk}
 use Rattle.sessions.proofs.Members.{cut-lt, digit}
 use Rattle.sessions.proofs.Counts.{ones-zero}
 
@@ -84,6 +84,21 @@ members-low (suc k) b w p h =
     (sym (members-even k b (w / 2 * 2) (w / 2) (omega arith) (omega arith)))))
     (two w)
 
+-- put together again they make the word
+pub members-make : (k b w a : ℕ) → w < 2 ^ k → walk (λ x s. x + 2 ^ s) a (membersFrom k b w) ≡ a + w * 2 ^ b
+unfolding membersFrom walk
+members-make zero b w a h = let z : w ≡ 0 = omega arith in rw z (omega arith)
+members-make (suc k) b w a h =
+    ⊎-elim
+    (λ e. rw e (members-make k (suc b) (w / 2) a (omega (arith, pow-suc 2 k)) ∙ omega (arith, pow-suc 2 b, halves w b, ap (λ (x : ℕ). x * 2 ^ b) e)))
+    (λ e. rw e (members-make k (suc b) (w / 2) (a + 2 ^ b) (omega (arith, pow-suc 2 k)) ∙ omega (arith, pow-suc 2 b, halves w b, ap (λ (x : ℕ). x * 2 ^ b) e)))
+    (two w)
+  where
+    halves : (w b : ℕ) → w * 2 ^ b ≡ w / 2 * 2 ^ suc b + w % 2 * 2 ^ b
+    halves w b =
+        let e : w ≡ w / 2 * 2 + w % 2 = omega arith in
+        ap (λ (x : ℕ). x * 2 ^ b) e ∙ (add-mul (w / 2 * 2) (w % 2) (2 ^ b) ∙ omega (arith, ap (λ (x : ℕ). w / 2 * x) (pow-suc 2 b)))
+
 -- as many as the count of ones
 pub members-length : (k b w : ℕ) → w < 2 ^ k → length (membersFrom k b w) ≡ ones w
 unfolding membersFrom
@@ -96,29 +111,34 @@ members-length (suc k) b w h =
 
 -- A LOOP OVER THE MEMBERS ---------------------------------------------------------------------------------------------
 
--- s is the next session of w, and v is what is then left: it is below 32, less is left, and the list goes on with the members of v
-pub next-below : (w s : ℕ) → 0 < w → w < 2 ^ 32 → s ≡ nextOf w → s < 32
-next-below w s p h e = rw e (low-lt 32 w p h)
+-- s is the next member of w, and v is what is then left: it is below k, less is left, and the list goes on with the members of v
+module _ (k w s : ℕ) (p : 0 < w) (h : w < 2 ^ k) (e : s ≡ trailingZeros k w) where
+  pub next-below : s < k
+  next-below = rw e (low-lt k w p h)
 
-pub next-has : (w s : ℕ) → 0 < w → w < 2 ^ 32 → s ≡ nextOf w → has s w ≡ 1
-next-has w s p h e = rw e (low-has 32 w p h)
+  pub next-has : has s w ≡ 1
+  next-has = rw e (low-has k w p h)
 
-pub next-less : (w s v : ℕ) → 0 < w → w < 2 ^ 32 → s ≡ nextOf w → v ≡ cut s w → v < w
-next-less w s v p h e f = rw (f, e) (cut-lt (trailingZeros 32 w) w (low-has 32 w p h))
+  -- nobody is below it
+  pub next-first : (t : ℕ) → t < s → has t w ≡ 0
+  next-first t l = below-low k w t (rw e at l)
 
-pub next-members : (w s v : ℕ) → 0 < w → w < 2 ^ 32 → s ≡ nextOf w → v ≡ cut s w → members w ≡ s ∷ members v
-next-members w s v p h e f = members-low 32 0 w p h ∙ rw (f, e, zero-add)
+  pub next-less : (v : ℕ) → v ≡ cut s w → v < w
+  next-less v f = rw (f, e) (cut-lt (trailingZeros k w) w (low-has k w p h))
 
-pub no-members : (w : ℕ) → w ≡ 0 → members w ≡ []
-no-members w e = rw (e, members-zero 32 0)
+  pub next-members : (v : ℕ) → v ≡ cut s w → membersFrom k 0 w ≡ s ∷ membersFrom k 0 v
+  next-members v f = members-low k 0 w p h ∙ rw (f, e, zero-add)
+
+pub no-members : (k w : ℕ) → w ≡ 0 → membersFrom k 0 w ≡ []
+no-members k w e = rw (e, members-zero k 0)
 
 -- one turn, and the end, of any loop over the members of a word
-module _ {S : Type 0} (step : S → ℕ → S) where
-  pub walk-turn : (a x : S) (w s v : ℕ) → 0 < w → w < 2 ^ 32 → s ≡ nextOf w → v ≡ cut s w → x ≡ step a s
-      → walk step a (members w) ≡ walk step x (members v)
+module _ {S : Type 0} (step : S → ℕ → S) (k : ℕ) where
+  pub walk-turn : (a x : S) (w s v : ℕ) → 0 < w → w < 2 ^ k → s ≡ trailingZeros k w → v ≡ cut s w → x ≡ step a s
+      → walk step a (membersFrom k 0 w) ≡ walk step x (membersFrom k 0 v)
   unfolding walk
-  walk-turn a x w s v p h e f g = rw (next-members w s v p h e f, g)
+  walk-turn a x w s v p h e f g = rw (next-members k w s p h e v f, g)
 
-  pub walk-end : (a : S) (w : ℕ) → w ≡ 0 → walk step a (members w) ≡ a
+  pub walk-end : (a : S) (w : ℕ) → w ≡ 0 → walk step a (membersFrom k 0 w) ≡ a
   unfolding walk
-  walk-end a w e = rw (no-members w e)
+  walk-end a w e = rw (no-members k w e)

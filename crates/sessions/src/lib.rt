@@ -1,13 +1,12 @@
-// A set of sessions as a 32-bit word, one bit a session (01, "Fractions").
+// Sets as words: of sessions with 32 bits, one bit a session (01, "Fractions"), and of links with 64.
 ghost use mathlib.Core.Path.{_≡_};
-ghost use Prim.Native.Nat.{ℕ, _^_, _<_};
-ghost use lib.Dec.{eqb};
-ghost use Rattle.sessions.specs.Set.{has, put, cut, sizeOf, nextOf};
+ghost use Prim.Native.Nat.{ℕ, _<_};
+ghost use Rattle.sessions.specs.Set.{hasOf, onlyOf, put, cut, sizeOf, nextOf, nextLinkOf};
 
 // The set of one session.
 pub fn only(s: u32) -> u32
     requires { ⌜ s < 32 ⌝ }
-    ensures { λ r. ⌜ r ≡ 2 ^ s ⌝ }
+    ensures { λ r. ⌜ r ≡ onlyOf s ⌝ }
 {
     1u32 << s
 }
@@ -31,7 +30,7 @@ pub fn cut(w: u32, s: u32) -> u32
 // Whether session s is a member.
 pub fn has(w: u32, s: u32) -> bool
     requires { ⌜ s < 32 ⌝ }
-    ensures { λ r. ⌜ r ≡ eqb (has s w) 1 ⌝ }
+    ensures { λ r. ⌜ r ≡ hasOf s w ⌝ }
 {
     (w >> s) % 2 == 1
 }
@@ -48,4 +47,45 @@ pub fn next(w: u32) -> u32
     ensures { λ r. ⌜ r ≡ nextOf w ⌝ }
 {
     u32::trailing_zeros(w)
+}
+
+// The set of one link.
+pub fn only_link(e: u32) -> u64
+    requires { ⌜ e < 64 ⌝ }
+    ensures { λ r. ⌜ r ≡ onlyOf e ⌝ }
+{
+    1u64 << (e as u64)
+}
+
+// The set with link e.
+pub fn put_link(w: u64, e: u32) -> u64
+    requires { ⌜ e < 64 ⌝ }
+    ensures { λ r. ⌜ r ≡ put e w ⌝ }
+{
+    w | (1u64 << (e as u64))
+}
+
+// The set without link e.
+pub fn cut_link(w: u64, e: u32) -> u64
+    requires { ⌜ e < 64 ⌝ }
+    ensures { λ r. ⌜ r ≡ cut e w ⌝ }
+{
+    w & !(1u64 << (e as u64))
+}
+
+// Whether link e is a member: a number above 63 never is.
+pub fn has_link(w: u64, e: u32) -> bool
+    ensures { λ r. ⌜ r ≡ hasOf e w ⌝ }
+{
+    if 64 <= e {
+        return false;
+    }
+    (w >> (e as u64)) % 2 == 1
+}
+
+// The next link to visit: the lowest set bit, or 64 where there is none.
+pub fn next_link(w: u64) -> u32
+    ensures { λ r. ⌜ r ≡ nextLinkOf w ⌝ }
+{
+    u64::trailing_zeros(w)
 }

@@ -5,7 +5,7 @@ use mathlib.Core.Path.{_≡_, ap, sym, subst, _∙_}
 use native.Mathlib.Nat.{mul-pos}
 use native.Mathlib.Omega.{arith}
 use Prim.Native.Nat.{_-_, _*_, _≤_, _<_}
-use Rattle.fractions.specs.Fraction.{amongOf, eachOf, fineOf, leftOf, lowestOf, shareOf}
+use Rattle.fractions.specs.Fraction.{amongOf, eachOf, fineOf, leftOf, lowestOf, maxDen, shareOf}
 use Rattle.fractions.specs.declared.Part.{Part}
 use Rattle.fractions.specs.declared.Share.the-variants as share
 use Rattle.fractions.proofs.Rate.share.Statement.{statement}
@@ -26,10 +26,10 @@ left-requires : tie.Need-left-requires
 left-requires c κs = search needs
 
 among-requires : tie.Need-among-requires
-among-requires c κs = let e = c .left .ensures in (subst (λ (p : Part). p .den ≤ 1099511627776) (sym e) (omega arith), c .before .pre .4)
+among-requires c κs = let e = c .left .ensures in (subst (λ (p : Part). p .den ≤ maxDen) (sym e) (omega arith), c .before .pre .4)
 
 lowest-requires : tie.Need-lowest-requires
-lowest-requires c κs = subst (λ (p : Part). 0 < p .den) (sym (part c)) (mul-pos (c .before .before .pre .0 .pos) (c .before .before .pre .3))
+lowest-requires c κs = subst (λ (p : Part). 0 < p .den) (sym (part c)) (mul-pos (c .before .before .pre .0 .lowest .pos) (c .before .before .pre .3))
 
 is-fine-requires : tie.Need-is-fine-requires
 is-fine-requires c κs = search needs
