@@ -1,0 +1,7 @@
+-- Laws of records. A crate above cites them as Rattle.records.proofs.NAME.
+pub mod Alls
+pub mod Bodies
+pub mod TakenKinds
+pub mod Paths
+pub mod ReadRecords
+pub mod Runs

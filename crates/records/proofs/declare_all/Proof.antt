@@ -1,0 +1,118 @@
+-- `records::declare_all` meets its contract: what is left to read comes to what the whole input comes to.
+-- Assumes nothing.
+use borrow.Author.Needs.{needs}
+use mathlib.Core.Path.{_≡_, sym, ap, _∙_}
+use Prim.Native.Nat.{_+_, _-_, _≤_, _<_}
+use denote.Ref.{now}
+use native.Mathlib.Omega.{arith}
+use native.Mathlib.Nat.{sub-zero}
+use lib.ListN.{length}
+use Rattle.records.specs.Run.{Ran, runFrom, runOf}
+use Rattle.records.specs.Declaring.{declarationsOf, declareOf, judgeOf, noneDeclared}
+use Rattle.records.specs.declared.Call.the-variants as call
+use Rattle.records.specs.declared.Declarations.{Declarations}
+use Rattle.records.specs.declared.Declared.{Declared}
+use Rattle.records.proofs.ReadRecords.{judged-record-ends, judged-record-ok}
+use Rattle.records.proofs.Runs.{run-end, run-refused, run-taken}
+use Rattle.records.proofs.declare_all.Statement.{statement}
+use Rattle.records.proofs.declare_all.Tie as tie
+
+abbrev Inv-loop : tie.InvT-loop
+Inv-loop s d₀ at₀ n₀ d at n =
+    (n ≤ at) × (at ≤ length s)
+    × (runFrom call.Calculation (judgeOf s) (declareOf s) s (length s - n) d n at ≡ runOf call.Calculation (judgeOf s) (declareOf s) s noneDeclared)
+
+abbrev μ-loop : tie.MeasureT-loop
+μ-loop s d₀ at₀ n₀ d at n = length s - at
+
+abbrev shown : Ran Declared → Declarations
+shown r = record { declared = r .state; taken = r .taken; end = r .end }
+
+-- the record ends within the input
+ends : (c : tie.After-size-at Inv-loop μ-loop)
+    → (0 < c .size-at .result) × (c .before .before .before .before .before .before .before .loop .at + c .size-at .result ≤ length (now (c .before .before .before .before .before .before .before .before .before .before .args .s)))
+ends c =
+    let s = now (c .before .before .before .before .before .before .before .before .before .before .args .s) in
+    let l = c .before .before .before .before .before .before .before .loop in (
+      c .size-at .ensures .1,
+      rw (c .size-at .ensures .0)
+          (judged-record-ends call.Calculation s (l .at) (judgeOf s (l .d)) _ (sym (c .before .before .before .before .before .next .ensures) ∙ c .before .before .before .x .given .1)),
+    )
+
+none-declared-requires : tie.Need-none-declared-requires Inv-loop μ-loop
+none-declared-requires c κs = tt
+
+loop-holds : tie.Need-loop-holds Inv-loop μ-loop
+loop-holds c = (omega arith, omega arith, rw (c .none-declared .ensures, sub-zero))
+
+next-requires : tie.Need-next-requires Inv-loop μ-loop
+next-requires c κs = omega arith
+
+enum-known-x : tie.Need-enum-known-x Inv-loop μ-loop
+enum-known-x c = search needs
+
+declare-requires : tie.Need-declare-requires Inv-loop μ-loop
+declare-requires c κs =
+    let s = now (c .before .before .before .before .before .before .before .before .args .s) in
+    let l = c .before .before .before .before .before .loop in
+    judged-record-ok call.Calculation s (l .at) (judgeOf s (l .d)) _ (sym (c .before .before .before .next .ensures) ∙ c .before .x .given .1) (λ i. omega (arith, c .before .before .before .before .before .before .before .shared-slice-known .given i))
+
+size-at-requires : tie.Need-size-at-requires Inv-loop μ-loop
+size-at-requires c κs = omega arith
+
+add-at : tie.Need-add-at Inv-loop μ-loop
+add-at c = omega (arith, ends c)
+
+add-n : tie.Need-add-n Inv-loop μ-loop
+add-n c = omega arith
+
+loop-less : tie.Need-loop-less Inv-loop μ-loop
+loop-less c = omega (arith, ends c)
+
+loop-again : tie.Need-loop-again Inv-loop μ-loop
+loop-again c =
+    let s = now (c .before .before .before .before .before .before .before .before .before .before .args .s) in
+    let l = c .before .before .before .before .before .before .before .loop in (
+      omega (arith, ends c),
+      omega (arith, ends c),
+      rw (c .size-at .ensures .0, c .before .declare .ensures)
+          (sym (run-taken call.Calculation (judgeOf s) (declareOf s) s (l .d) (l .n) (l .at) _ (l .inv .0) (c .before .before .before .before .before .before .loop-test .taken) (sym (c .before .before .before .before .before .next .ensures) ∙ c .before .before .before .x .given .1))
+          ∙ l .inv .2),
+    )
+
+enum-known-x-2 : tie.Need-enum-known-x-2 Inv-loop μ-loop
+enum-known-x-2 c = search needs
+
+returns : tie.Need-returns Inv-loop μ-loop
+unfolding declarationsOf
+returns c = let s = now (c .before .before .before .before .before .before .before .before .args .s) in
+    let l = c .before .before .before .before .before .loop in
+    ap shown
+    (sym (run-refused call.Calculation (judgeOf s) (declareOf s) s (l .d) (l .n) (l .at) _ (l .inv .0) (c .before .before .before .before .loop-test .taken) (sym (c .before .before .before .next .ensures) ∙ c .before .x2 .given .1))
+    ∙ l .inv .2)
+
+returns-2 : tie.Need-returns-2 Inv-loop μ-loop
+unfolding declarationsOf
+returns-2 c = let s = now (c .before .before .before .before .args .s) in
+    let l = c .before .loop in
+    ap shown (sym (run-end call.Calculation (judgeOf s) (declareOf s) s (length s - l .n) (l .d) (l .n) (l .at) (c .loop-test .left)) ∙ l .inv .2)
+
+pub declare-all-spec : {M : Type 1} → statement M
+declare-all-spec =
+    tie.close
+    (tie.spec
+    Inv-loop
+    μ-loop
+    none-declared-requires
+    loop-holds
+    next-requires
+    enum-known-x
+    declare-requires
+    size-at-requires
+    add-at
+    add-n
+    loop-less
+    loop-again
+    enum-known-x-2
+    returns
+    returns-2)

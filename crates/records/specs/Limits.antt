@@ -1,0 +1,27 @@
+-- 01, "What the order covers": the limits.
+-- Assumes nothing: definitions.
+use Prim.Native.Nat.{ℕ}
+
+-- 64 links numbered 0 to 63
+abbrev pub linkLimit : ℕ
+linkLimit = 64
+
+-- 32 sessions numbered 0 to 31
+abbrev pub sessionLimit : ℕ
+sessionLimit = 32
+
+-- paths of 1 to 8 links
+abbrev pub pathLimit : ℕ
+pathLimit = 8
+
+-- capacity and access rate 1 to 1,000,000 kbit/s; maximum 1 to 1,000,000, or 0 for no maximum
+abbrev pub rateLimit : ℕ
+rateLimit = 1000000
+
+-- 256 packets in flight
+abbrev pub packetLimit : ℕ
+packetLimit = 256
+
+-- input up to 32,768 bytes
+abbrev pub inputLimit : ℕ
+inputLimit = 32768
