@@ -19,7 +19,7 @@ use Rattle.fairness.proofs.Tests.{part-is, part-le, part-zero}
 
 -- WHERE THE ROUNDS BEGIN ----------------------------------------------------------------------------------------------
 
-load-zero : (p : Problem) (x : ℕ → ℕ) → ((s : ℕ) → s < p .sessions → x s ≡ 0) → (e : ℕ) → loadAt (net p) x e ≡ 0
+pub load-zero : (p : Problem) (x : ℕ → ℕ) → ((s : ℕ) → s < p .sessions → x s ≡ 0) → (e : ℕ) → loadAt (net p) x e ≡ 0
 unfolding loadAt net
 load-zero p x z e = sum-none (p .sessions) (λ s. part (net p .on e s) (x s)) (λ s h. rw (z s h) (part-zero (net p .on e s)))
 

@@ -1,10 +1,12 @@
 -- Theorems of fairness. A crate above cites them as Rattle.fairness.proofs.NAME.
 pub mod Tests
+pub mod Anys
 pub mod Sums
 pub mod Nets
 pub mod NetOfProblem
 pub mod Criterion
 pub mod Uniqueness
+pub mod SameRates
 pub mod Rounds
 pub mod Products
 pub mod Denominators

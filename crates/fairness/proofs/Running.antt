@@ -1,6 +1,6 @@
 -- Figure 1 as a function: each round is one (`is-round`), keeps what holds, and fixes a session, until nobody is open.
 -- Assumes nothing.
-use mathlib.Core.Bool.{Bool, _||_, cond, false, not, true}
+use mathlib.Core.Bool.{Bool, cond, false, not, true}
 use mathlib.Core.Logic.{_↔_, _⊎_, inl, inr}
 use mathlib.Core.Path.{_∙_, _≡_, ap, refl, sym}
 use Prim.Native.Nat.{ℕ, zero, suc, _*_, _+_, _≤_, _<_}
@@ -9,12 +9,13 @@ use native.Mathlib.Omega.{arith}
 use lib.Dec.{T, eqb→eq, ltb}
 use lib.ListN.{getD}
 use borrow.Author.Tests.{le-ltb, lt-ltb, ltb-false, ltb-true}
-use Rattle.fairness.specs.Figure1.{Net, Pick, State, any, at, chosen, counts, fixAt, isFixed, leftAt, lefts, nobody, oneRound, openAll, openAt, rate, roundOn, rounds, smaller, smallest, values}
+use Rattle.fairness.specs.Figure1.{Net, Pick, State, at, chosen, counts, fixAt, isFixed, leftAt, lefts, nobody, oneRound, openAll, openAt, rate, roundOn, rounds, smaller, smallest, values}
 use Rattle.fairness.specs.Sum.{part}
+use Rattle.fairness.proofs.Anys.{any-at, any-found}
 use Rattle.fairness.proofs.Denominators.{SmallDenominator, allWeight, small-step}
 use Rattle.fairness.proofs.Rounds.{Filling, Round, falls, step}
 use Rattle.fairness.proofs.Sums.{sum-at, sum-none}
-use Rattle.fairness.proofs.Tests.{and-join, and-split, cond-hit, cond-miss, eqb-T, extend, last, or-cases, or-hit, or-left, or-miss, or-right, order, part-is, pos-right}
+use Rattle.fairness.proofs.Tests.{and-join, and-split, cond-hit, cond-miss, eqb-T, extend, or-hit, or-miss, order, part-is, pos-right}
 
 values-from : {A : Type 0} (n i j : ℕ) (f : ℕ → A) (z : A) → j < n → getD (values i n f) j z ≡ f (i + j)
 unfolding values
@@ -59,24 +60,6 @@ smallest-least a c (suc n) = go (smallest a c n) (smallest-least a c n)
     go : (p : Pick) → Least a c n p → Least a c (suc n) (smaller a c n p)
     go nobody l = first l (ltb 0 (c n)) refl
     go (at b) l = next b l (ltb (a n * c b) (a b * c n)) refl
-
-any-found : (n : ℕ) (f : ℕ → Bool) → T (any n f) → (i : ℕ) × (i < n) × T (f i)
-unfolding any
-any-found zero f t = absurd t
-any-found (suc n) f t = go (any-found n f) (or-cases (f n) (any n f) t)
-  where
-    go : (T (any n f) → (i : ℕ) × (i < n) × T (f i)) → T (f n) ⊎ T (any n f) → (i : ℕ) × (i < suc n) × T (f i)
-    go ih (inl u) = (n, omega arith, u)
-    go ih (inr u) = let r = ih u in (r .0, omega arith, r .2)
-
-any-at : (n : ℕ) (f : ℕ → Bool) (i : ℕ) → i < n → T (f i) → T (any n f)
-unfolding any
-any-at zero f i h t = absurd (omega arith)
-any-at (suc n) f i h t = go (any-at n f i) (last h)
-  where
-    go : (i < n → T (f i) → T (any n f)) → (i < n) ⊎ (i ≡ n) → T (f n || any n f)
-    go ih (inl l) = or-right (f n) (any n f) (ih l t)
-    go ih (inr e) = or-left (f n) (any n f) (rw e at t)
 
 -- one round at b is a round
 module _ (w : Net) (z : State) (A C : ℕ → ℕ) (hA : (e : ℕ) → e < w .links → A e ≡ leftAt w (z .den) (rate z) e) (hC : (e : ℕ) → e < w .links → C e ≡ openAt w (isFixed z) e) (b : ℕ) (least : Least A C (w .links) (at b)) where

@@ -58,6 +58,15 @@ has-put-other (suc s) zero w n = omega arith
 has-put-other (suc s) (suc t) w n =
     ap (has t) (half (put s (w / 2)) (w % 2) (omega arith)) ∙ has-put-other s t (w / 2) (λ e. n (ap suc e))
 
+-- a member put twice
+pub put-put : (s w : ℕ) → put s (put s w) ≡ put s w
+unfolding put
+put-put zero w = omega arith
+put-put (suc s) w =
+    let h : (put s (w / 2) * 2 + w % 2) / 2 ≡ put s (w / 2) = omega arith in
+    let m : (put s (w / 2) * 2 + w % 2) % 2 ≡ w % 2 = omega arith in
+    rw (h, m, put-put s (w / 2)) refl
+
 pub has-cut-same : (s w : ℕ) → has s (cut s w) ≡ 0
 unfolding has cut
 has-cut-same zero w = omega arith

@@ -78,6 +78,10 @@ has-not (suc k) (suc s) b h l =
     ap (has s) {x = ((2 ^ suc k - 1) - b) / 2} {y = (2 ^ k - 1) - b / 2} (omega (arith, pow-suc 2 k, pow-pos k))
     ∙ has-not k s (b / 2) (omega arith) (omega (arith, pow-suc 2 k))
 
+-- `w & !b`
+pub has-without : (k s w b : ℕ) → s < k → b < 2 ^ k → has s (bitAnd w ((2 ^ k - 1) - b)) ≡ min (has s w) (1 - has s b)
+has-without k s w b h l = has-and s w ((2 ^ k - 1) - b) ∙ ap (λ (v : ℕ). min (has s w) v) (has-not k s b h l)
+
 -- an intersection has no more members
 pub ones-and : (k a b : ℕ) → a < 2 ^ k → ones (bitAnd a b) ≤ ones a
 ones-and k a b h =

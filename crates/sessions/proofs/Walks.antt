@@ -2,7 +2,7 @@
 -- Assumes nothing.
 use mathlib.Core.List.{List, [], _∷_}
 use mathlib.Core.Logic.{_⊎_, ⊎-elim}
-use mathlib.Core.Path.{_≡_, refl, sym, ap, ap₂, _∙_}
+use mathlib.Core.Path.{_≡_, refl, sym, ap, ap₂, subst, _∙_}
 use Prim.Native.Nat.{ℕ, zero, suc, _+_, _*_, _/_, _%_, _^_, _<_, suc-le-suc}
 use native.Mathlib.Nat.{pow-suc, add-zero, zero-add, add-mul}
 use native.Mathlib.Omega.{arith}
@@ -10,7 +10,7 @@ use lib.Count.{ones, ones-step, trailingZeros}
 use lib.ListN.{length}
 use Rattle.sessions.specs.Set.{has, cut, membersFrom, walk}
 use Rattle.sessions.proofs.Members.{cut-lt, digit}
-use Rattle.sessions.proofs.Counts.{ones-zero}
+use Rattle.sessions.proofs.Counts.{ones-pos, ones-zero}
 
 two : (w : ℕ) → (w % 2 ≡ 0) ⊎ (w % 2 ≡ 1)
 two w = digit (w % 2) (omega arith)
@@ -37,6 +37,10 @@ below-low (suc k) w zero h = ⊎-elim (λ e. e) (λ e. absurd (omega (arith, rw 
 below-low (suc k) w (suc t) h =
     ⊎-elim (λ e. below-low k (w / 2) t (omega (arith, rw e at h))) (λ e. absurd (omega (arith, rw e at h))) (two w)
 
+-- a set that is not empty has a size
+pub ones-some : (k w : ℕ) → 0 < w → w < 2 ^ k → 0 < ones w
+ones-some k w p h = ones-pos (trailingZeros k w) w (low-has k w p h)
+
 low-even : (k w : ℕ) → w % 2 ≡ 0 → trailingZeros (suc k) w ≡ suc (trailingZeros k (w / 2))
 unfolding trailingZeros
 low-even k w e = rw e
@@ -52,11 +56,11 @@ unfolding membersFrom
 members-zero zero b = refl
 members-zero (suc k) b = members-zero k (suc b)
 
-members-even : (k b w v : ℕ) → w % 2 ≡ 0 → w / 2 ≡ v → membersFrom (suc k) b w ≡ membersFrom k (suc b) v
+pub members-even : (k b w v : ℕ) → w % 2 ≡ 0 → w / 2 ≡ v → membersFrom (suc k) b w ≡ membersFrom k (suc b) v
 unfolding membersFrom
 members-even k b w v e f = rw (e, f)
 
-members-odd : (k b w v : ℕ) → w % 2 ≡ 1 → w / 2 ≡ v → membersFrom (suc k) b w ≡ b ∷ membersFrom k (suc b) v
+pub members-odd : (k b w v : ℕ) → w % 2 ≡ 1 → w / 2 ≡ v → membersFrom (suc k) b w ≡ b ∷ membersFrom k (suc b) v
 unfolding membersFrom
 members-odd k b w v e f = rw (e, f)
 
@@ -142,3 +146,29 @@ module _ {S : Type 0} (step : S → ℕ → S) (k : ℕ) where
   pub walk-end : (a : S) (w : ℕ) → w ≡ 0 → walk step a (membersFrom k 0 w) ≡ a
   unfolding walk
   walk-end a w e = rw (no-members k w e)
+
+-- two loops whose steps agree on the members come to the same
+module _ {S : Type 0} (f g : S → ℕ → S) where
+  walk-nothing : (b w : ℕ) (a : S) → walk f a (membersFrom 0 b w) ≡ walk g a (membersFrom 0 b w)
+  unfolding walk membersFrom
+  walk-nothing b w a = refl
+
+  walk-cong-from : (k b w : ℕ) → ((j : ℕ) → j < k → has j w ≡ 1 → (a : S) → f a (b + j) ≡ g a (b + j)) → (a : S)
+      → walk f a (membersFrom k b w) ≡ walk g a (membersFrom k b w)
+  unfolding walk has
+  walk-cong-from zero b w h a = walk-nothing b w a
+  walk-cong-from (suc k) b w h a =
+      let more : (j : ℕ) → j < k → has j (w / 2) ≡ 1 → (a : S) → f a (suc b + j) ≡ g a (suc b + j) =
+      λ j l m a. subst (λ (n : ℕ). f a n ≡ g a n) (omega arith) (h (suc j) (omega arith) m a) in
+      ⊎-elim
+      (λ e. rw (members-even k b w (w / 2) e refl) (walk-cong-from k (suc b) (w / 2) more a))
+      (λ e.
+      let here : f a b ≡ g a b = subst (λ (n : ℕ). f a n ≡ g a n) (omega arith) (h 0 (omega arith) e a) in
+      let l = membersFrom k (suc b) (w / 2) in
+      rw (members-odd k b w (w / 2) e refl)
+      (subst (λ (x : S). walk f x l ≡ walk g (g a b) l) (sym here) (walk-cong-from k (suc b) (w / 2) more (g a b))))
+      (two w)
+
+  pub walk-cong : (k w : ℕ) → ((j : ℕ) → j < k → has j w ≡ 1 → (a : S) → f a j ≡ g a j) → (a : S)
+      → walk f a (membersFrom k 0 w) ≡ walk g a (membersFrom k 0 w)
+  walk-cong k w h a = walk-cong-from k 0 w (λ j l m a. subst (λ (n : ℕ). f a n ≡ g a n) (omega arith) (h j l m a)) a

@@ -1,0 +1,123 @@
+-- What the definition of `calculate` gives: its cases in the order of their tests, and that an accepted input gets what was ordered, and only that.
+-- Assumes nothing.
+use mathlib.Core.Bool.{Bool, _||_, cond, false, true}
+use mathlib.Core.List.{List}
+use mathlib.Core.Path.{_≡_, refl, ap, ap₂, subst, sym, _∙_}
+use Prim.Native.Nat.{ℕ, _≤_, _<_}
+use native.Mathlib.Omega.{arith}
+use borrow.Author.Tests.{le-ltb, lt-ltb, ltb-false}
+use lib.Dec.{eqb→eq, ltb}
+use lib.ListN.{getD, length}
+use Rattle.fractions.specs.Fraction.{frac}
+use Rattle.fractions.specs.declared.Rate.{Rate}
+use Rattle.sessions.specs.Set.{has}
+use Rattle.fairness.specs.Answer.{Answer, figure1Rate}
+use Rattle.fairness.specs.MaxMin.{Active}
+use Rattle.fairness.proofs.Answers.{answer-unique, figure1-answer}
+use Rattle.fairness.proofs.Running.{values-at}
+use Rattle.records.specs.Declaring.{declarationsOf}
+use Rattle.records.specs.declared.Declared.{Declared}
+use Rattle.records.specs.declared.End.{End}
+use Rattle.records.specs.declared.End.the-variants as end
+use Rattle.records.specs.declared.Refusal.{Refusal}
+use Rattle.records.specs.declared.Refusal.the-variants as refusal
+use Rattle.records.proofs.KeepsRanges.{declarations-in-range}
+use Rattle.records.proofs.ReadRecords.{Bytes}
+use Rattle.filling.specs.Lines.{Ranges, problemOf}
+use Rattle.calculation.specs.Calculating.{Ordered, Outcome, afterRecords, calculateOf, doneOf, refusing, resultsOf}
+use Rattle.calculation.specs.declared.Calculated.{Calculated}
+use Rattle.calculation.specs.declared.Calculated.the-variants as calculated
+use Rattle.calculation.proofs.Writing.{written-at}
+
+module _ (s nums dens places : List ℕ) where
+  -- refusal 15
+  pub short-first : length nums < 32 → calculateOf s nums dens places ≡ refusing (calculated.Refused refusal.ShortSlice 0) nums dens places
+  unfolding calculateOf
+  short-first h = rw (lt-ltb _ _ h)
+
+  pub short-second : 32 ≤ length nums → length dens < 32 → calculateOf s nums dens places ≡ refusing (calculated.Refused refusal.ShortSlice 0) nums dens places
+  unfolding calculateOf
+  short-second a h = rw (le-ltb _ _ a, lt-ltb _ _ h)
+
+  pub short-third : 32 ≤ length nums → 32 ≤ length dens → length places < 32
+      → calculateOf s nums dens places ≡ refusing (calculated.Refused refusal.ShortSlice 0) nums dens places
+  unfolding calculateOf
+  short-third a b h = rw (le-ltb _ _ a, le-ltb _ _ b, lt-ltb _ _ h)
+
+  module _ (a : 32 ≤ length nums) (b : 32 ≤ length dens) (c : 32 ≤ length places) where
+    -- refusal 1
+    pub too-long : 32768 < length s → calculateOf s nums dens places ≡ refusing (calculated.Refused refusal.TooLong 0) nums dens places
+    unfolding calculateOf
+    too-long h = rw (le-ltb _ _ a, le-ltb _ _ b, le-ltb _ _ c, lt-ltb _ _ h)
+
+    -- then the records
+    pub by-records : length s ≤ 32768 → calculateOf s nums dens places ≡ afterRecords (declarationsOf s .end) (declarationsOf s .declared) nums dens places
+    unfolding calculateOf
+    by-records h = rw (le-ltb _ _ a, le-ltb _ _ b, le-ltb _ _ c, le-ltb _ _ h)
+
+-- declarations of an input keep to the ranges that the calculation asks for
+pub ranges-of : (s : List ℕ) → Bytes s → Ranges (declarationsOf s .declared)
+ranges-of s bytes = let r = declarations-in-range s bytes in record { capacity = λ e h. r .capacity e; access = λ t h. r .access t }
+
+-- the rates that are written are those of Figure 1
+done-answer : (d : Declared) (nums dens places : List ℕ) → 32 ≤ length nums → 32 ≤ length dens
+    → Answer (problemOf d) (λ t. frac (getD (doneOf d nums dens places .nums) t 0) (getD (doneOf d nums dens places .dens) t 0))
+unfolding doneOf resultsOf problemOf
+done-answer d nums dens places a b =
+    let f = figure1-answer (problemOf d) in
+    let same : (t : ℕ) → Active (problemOf d) t → figure1Rate (problemOf d) t ≡ frac (getD (doneOf d nums dens places .nums) t 0) (getD (doneOf d nums dens places .dens) t 0) =
+    λ t h.
+    let m = eqb→eq (has t (d .sessions)) 1 (h .1) in
+    sym (ap₂ frac (written-at (d .sessions) (resultsOf d .nums) nums t (h .0) m a ∙ values-at 32 t _ 0 (h .0)) (written-at (d .sessions) (resultsOf d .dens) dens t (h .0) m b ∙ values-at 32 t _ 0 (h .0))) in
+    record {
+      over = f .over;
+      rates = f .rates;
+      fair = f .fair;
+      shown = λ t h. rw (← (same t h)) (f .shown t h);
+      lowest = λ t h. rw (← (same t h)) (f .lowest t h);
+    }
+
+-- what an outcome must be
+abbrev Right : List ℕ → Outcome → Type 0
+Right s o = Ordered s (o .answer) (o .nums) (o .dens)
+
+cases : {A : Type 0} (P : A → Type 0) (t : Bool) (x y : A) → (t ≡ true → P x) → (t ≡ false → P y) → P (cond t x y)
+cases P true x y f g = f refl
+cases P false x y f g = g refl
+
+or-false : (a b : Bool) → (a || b) ≡ false → (a ≡ false) × (b ≡ false)
+or-false true b e = absurd (let z : _≡_ {A = ℕ} 0 1 = cc in omega arith)
+or-false false b e = (refl, e)
+
+after-right : (s nums dens places : List ℕ) → 32 ≤ length nums → 32 ≤ length dens → (e : End) → Right s (afterRecords e (declarationsOf s .declared) nums dens places)
+unfolding doneOf
+after-right s nums dens places a b (end.Refused r place) = omega arith
+after-right s nums dens places a b end.Finished = done-answer (declarationsOf s .declared) nums dens places a b
+
+-- an accepted input gets what was ordered
+pub calculate-ordered : (s nums dens places : List ℕ) → Right s (calculateOf s nums dens places)
+unfolding calculateOf
+calculate-ordered s nums dens places =
+    cases (Right s) (ltb (length nums) 32 || (ltb (length dens) 32 || ltb (length places) 32)) _ _ (λ e. omega arith)
+    (λ e.
+    let n = or-false (ltb (length nums) 32) _ e in
+    let d = or-false (ltb (length dens) 32) _ (n .1) in
+    cases (Right s) (ltb 32768 (length s)) _ _ (λ f. omega arith)
+    (λ f. after-right s nums dens places (ltb-false _ _ (n .0)) (ltb-false _ _ (d .0)) (declarationsOf s .end)))
+
+-- so does whoever answers and leaves what the definition says
+pub ordered-of : (s nums dens places : List ℕ) (r : Calculated) (n d : List ℕ) → r ≡ calculateOf s nums dens places .answer
+    → n ≡ calculateOf s nums dens places .nums → d ≡ calculateOf s nums dens places .dens → Ordered s r n d
+ordered-of s nums dens places r n d e f g =
+    let o = calculateOf s nums dens places in
+    subst (λ (x : Calculated). Ordered s x n d) (sym e)
+    (subst (λ (x : List ℕ). Ordered s (o .answer) x d) (sym f)
+    (subst (λ (x : List ℕ). Ordered s (o .answer) (o .nums) x) (sym g) (calculate-ordered s nums dens places)))
+
+-- no second result is what was ordered: two answers of one accepted input have the same numerator and denominator for every declared session
+pub ordered-unique : (s : List ℕ) (links sessions : ℕ) (n d n' d' : List ℕ)
+    → Ordered s (calculated.Done links sessions) n d → Ordered s (calculated.Done links sessions) n' d'
+    → (t : ℕ) → Active (problemOf (declarationsOf s .declared)) t → (getD n t 0 ≡ getD n' t 0) × (getD d t 0 ≡ getD d' t 0)
+ordered-unique s links sessions n d n' d' a b t h =
+    let e = answer-unique (problemOf (declarationsOf s .declared)) _ _ a b t h in
+    (ap (λ (r : Rate). r .num) e, ap (λ (r : Rate). r .den) e)

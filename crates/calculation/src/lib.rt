@@ -1,0 +1,183 @@
+// The direct calculation of every session's max-min fair rate (01, "The direct calculation"): the entry point `calculate`.
+ghost use mathlib.Core.Bool.{_&&_, cond};
+ghost use mathlib.Core.Path.{_≡_};
+ghost use Prim.Native.Nat.{ℕ, _+_, _≤_, _<_};
+ghost use lib.Dec.{eqb, ltb};
+ghost use lib.ListN.{getD, length};
+ghost use Rattle.fairness.specs.Figure1.{values};
+ghost use Rattle.filling.specs.Lines.{Filled, Ranges};
+ghost use Rattle.calculation.specs.Binding.{bindingOf, firstOf};
+ghost use Rattle.calculation.specs.Calculating.{Ordered, calculateOf, doneOf, written};
+ghost use Rattle.calculation.specs.Results.{Found};
+use filling::Fixed;
+use fractions::Rate;
+use records::Declared;
+use records::End;
+use records::Refusal;
+
+// Which links and sessions are declared, or what was refused and the place of its record's kind byte.
+pub enum Calculated {
+    Done { links: u64, sessions: u32 },
+    Refused { refusal: Refusal, place: usize },
+}
+
+// For each session number a rate and a binding place: a link's number, or 64 for "own".
+pub struct Results {
+    pub nums: [u64; 32],
+    pub dens: [u64; 32],
+    pub places: [u64; 32],
+}
+
+// The place of a path byte among the links; of a byte that is no link, 0.
+fn slot(e: u8) -> usize
+    ensures { λ r. ⌜ (r ≡ cond (ltb e 64) e 0) × (r < 64) ⌝ }
+{
+    if e < 64 {
+        return e as usize;
+    }
+    0
+}
+
+// Whether a path byte is a link with nothing left.
+fn is_full(e: u8, left: u64) -> bool
+    ensures { λ r. ⌜ r ≡ (ltb e 64 && eqb left 0) ⌝ }
+{
+    e < 64 && left == 0
+}
+
+// The first of the eight path bytes from a place on that is a link with nothing left, or 255.
+fn first_full(path: &[u8; 256], room: &[u64; 64], from: usize) -> u64
+    requires { ⌜ from + 8 ≤ 256 ⌝ }
+    ensures { λ r. ⌜ r ≡ firstOf (λ e. ltb e 64 && eqb (getD (now (room .entry)) e 0) 0) (values 0 8 (λ h. getD (now (path .entry)) (from + h) 0)) ⌝ }
+{
+    for h in 0..8usize {
+        let e = path[from + h];
+        if is_full(e, room[slot(e)]) {
+            return records::wide(e);
+        }
+    }
+    255
+}
+
+// The binding place of session t: "own" if its rate equals D, else the first link on its path that is fully used.
+fn binding(d: Declared, z: Fixed, t: u32) -> u64
+    requires { ⌜ Ranges d × Filled d z × (t < 32) ⌝ }
+    ensures { λ r. ⌜ r ≡ bindingOf d (z .den) (λ s. getD (z .rate) s 0) t ⌝ }
+{
+    let i = t as usize;
+    let limit = records::own_limit(d.access[i], d.maximum[i]);
+    let den = z.den;
+    let most = den * limit;
+    if z.rate[i] == most {
+        return 64;
+    }
+    first_full(&d.path, &z.room, i * 8)
+}
+
+fn no_results() -> Results
+    ensures { λ r. ⌜ (length (r .nums) ≡ 32) × (length (r .dens) ≡ 32) × (length (r .places) ≡ 32) ⌝ }
+{
+    Results {
+        nums: [0; 32],
+        dens: [0; 32],
+        places: [0; 32],
+    }
+}
+
+// The rates in lowest terms and the binding places of the declared sessions.
+fn find(d: Declared, z: Fixed) -> Results
+    requires { ⌜ Ranges d × Filled d z ⌝ }
+    ensures { λ r. ⌜ Found d z (d .sessions) r ⌝ }
+{
+    let mut out = no_results();
+    let mut left = d.sessions;
+    let den = z.den;
+    while left != 0 {
+        let t = sessions::next(left);
+        let i = t as usize;
+        let rate = Rate::lowest(z.rate[i], den);
+        let place = binding(d, z, t);
+        out.nums[i] = rate.num;
+        out.dens[i] = rate.den;
+        out.places[i] = place;
+        left = sessions::cut(left, t);
+    }
+    out
+}
+
+// Writes the places of the sessions of a word, and no others.
+fn write(w: u32, values: &[u64; 32], out: &mut [u64])
+    requires { ⌜ 32 ≤ length (now out) ⌝ }
+    ensures { λ r. ⌜ now (out .exit) ≡ written w (now (values .entry)) (now (out .entry)) ⌝ }
+{
+    let mut left = w;
+    while left != 0 {
+        let t = sessions::next(left);
+        let i = t as usize;
+        out[i] = values[i];
+        left = sessions::cut(left, t);
+    }
+}
+
+// The answer for declarations that were all taken: the rates, the binding places, and what is declared.
+fn answer(d: Declared, nums: &mut [u64], dens: &mut [u64], places: &mut [u64]) -> Calculated
+    requires { ⌜ Ranges d × (32 ≤ length (now nums)) × (32 ≤ length (now dens)) × (32 ≤ length (now places)) ⌝ }
+    ensures { λ r. ⌜ (r ≡ doneOf d (now (nums .entry)) (now (dens .entry)) (now (places .entry)) .answer)
+        × (now (nums .exit) ≡ doneOf d (now (nums .entry)) (now (dens .entry)) (now (places .entry)) .nums)
+        × (now (dens .exit) ≡ doneOf d (now (nums .entry)) (now (dens .entry)) (now (places .entry)) .dens)
+        × (now (places .exit) ≡ doneOf d (now (nums .entry)) (now (dens .entry)) (now (places .entry)) .places) ⌝ }
+{
+    let links = d.links;
+    let declared = d.sessions;
+    let v = find(d, filling::filled(d));
+    write(declared, &v.nums, nums);
+    write(declared, &v.dens, dens);
+    write(declared, &v.places, places);
+    Calculated::Done {
+        links: links,
+        sessions: declared,
+    }
+}
+
+// Every declared session's max-min fair rate, as a numerator and a denominator, and its binding place.
+pub fn calculate(s: &[u8], nums: &mut [u64], dens: &mut [u64], places: &mut [u64]) -> Calculated
+    ensures exact { λ r. ⌜ (r ≡ calculateOf (now (s .entry)) (now (nums .entry)) (now (dens .entry)) (now (places .entry)) .answer)
+        × (now (nums .exit) ≡ calculateOf (now (s .entry)) (now (nums .entry)) (now (dens .entry)) (now (places .entry)) .nums)
+        × (now (dens .exit) ≡ calculateOf (now (s .entry)) (now (nums .entry)) (now (dens .entry)) (now (places .entry)) .dens)
+        × (now (places .exit) ≡ calculateOf (now (s .entry)) (now (nums .entry)) (now (dens .entry)) (now (places .entry)) .places) ⌝ }
+    ensures ordered { λ r. ⌜ Ordered (now (s .entry)) r (now (nums .exit)) (now (dens .exit)) ⌝ }
+{
+    if nums.len() < 32 {
+        return Calculated::Refused {
+            refusal: Refusal::ShortSlice,
+            place: 0,
+        };
+    }
+    if dens.len() < 32 {
+        return Calculated::Refused {
+            refusal: Refusal::ShortSlice,
+            place: 0,
+        };
+    }
+    if places.len() < 32 {
+        return Calculated::Refused {
+            refusal: Refusal::ShortSlice,
+            place: 0,
+        };
+    }
+    if records::INPUT < s.len() {
+        return Calculated::Refused {
+            refusal: Refusal::TooLong,
+            place: 0,
+        };
+    }
+    let read = records::declare_all(s);
+    let end = read.end;
+    match end {
+        End::Refused { refusal, place } => Calculated::Refused { refusal, place },
+        End::Finished => {
+            let d = read.declared;
+            answer(d, nums, dens, places)
+        }
+    }
+}

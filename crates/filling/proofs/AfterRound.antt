@@ -1,0 +1,205 @@
+-- What holds before a round holds after it, and fewer sessions are open.
+-- Assumes nothing.
+use mathlib.Core.Bool.{Bool, false, not, true}
+use mathlib.Core.List.{List}
+use mathlib.Core.Logic.{_⊎_, inl, inr}
+use mathlib.Core.Path.{_≡_, refl, sym, ap, _∙_, subst}
+use Prim.Native.Nat.{ℕ, zero, suc, _+_, _-_, _*_, _^_, _<_, _≤_, min}
+use native.Mathlib.Nat.{mul-le-mul, mul-pos}
+use native.Mathlib.Omega.{arith}
+use borrow.Author.Tests.{ne-eqb}
+use lib.Bits.{and-le-l, and-zero-l, bitAnd}
+use lib.Count.{ones}
+use lib.Dec.{T, eqb}
+use lib.ListN.{getD, length}
+use Rattle.sessions.specs.Set.{has}
+use Rattle.sessions.proofs.Members.{has-lt}
+use Rattle.sessions.proofs.Counts.{ones-zero}
+use Rattle.sessions.proofs.Operations.{has-without}
+use Rattle.sessions.proofs.Operations.{has-and}
+use Rattle.fairness.specs.Figure1.{Net, leftAt, loadAt, net, openAt}
+use Rattle.fairness.specs.Sum.{part, sum}
+use Rattle.fairness.proofs.Denominators.{SmallDenominator, small-32, small-step}
+use Rattle.fairness.proofs.NetOfProblem.{cap-link}
+use Rattle.fairness.proofs.Rounds.{Filling, falls, left-after, step}
+use Rattle.fairness.proofs.Sums.{sum-eq}
+use Rattle.fairness.proofs.Tests.{order}
+use Rattle.records.specs.declared.Declared.{Declared}
+use Rattle.filling.specs.Lines.{problemOf}
+use Rattle.filling.specs.OneRound.{LinksAfter, Running, fixedIn, linkAfter}
+use Rattle.filling.specs.SmallestShare.{LinksFit, wordOf}
+use Rattle.filling.specs.declared.Fill.{Fill}
+use Rattle.filling.specs.declared.Given.{Given}
+use Rattle.filling.specs.declared.Links.{Links}
+use Rattle.filling.proofs.OneLink.{still-is, word-after}
+use Rattle.filling.proofs.OpenSessions.{few, left-is, ones-sum, open-ones, room-link, weights, word-link}
+use Rattle.filling.proofs.RoundOfFigure1.{Turn, openAfter}
+
+-- how many of a link's sessions are chosen, one session's part
+chosen-part : (on : Bool) (a t c : ℕ) → a < 2 → c < 2 → (T on → a ≡ t) × (T (not on) → a ≡ 0) → (c ≡ 1 → t ≡ 1)
+    → part on (part (eqb c 1) 1) ≡ min a c
+chosen-part on a t zero ha hc q o = none on
+  where
+    none : (on : Bool) → part on 0 ≡ min a 0
+    none true = omega arith
+    none false = omega arith
+chosen-part true a t (suc zero) ha hc q o = rw (q .0 tt, o refl) refl
+chosen-part false a t (suc zero) ha hc q o = rw (q .1 tt) (omega arith)
+chosen-part on a t (suc (suc c)) ha hc q o = absurd (omega arith)
+
+-- ALL LINKS -----------------------------------------------------------------------------------------------------------
+
+module _ (d : Declared) (z : Fill) (run : Running d z) (l : Given) (small-word : l .chosen < 2 ^ 32) (rate' : List ℕ) (long : length rate' ≡ 32)
+    (turn : Turn d z l rate') where
+  abbrev w : Net
+  w = net (problemOf d)
+
+  abbrev x : ℕ → ℕ
+  x s = getD (z .rate) s 0
+
+  abbrev fixed : ℕ → Bool
+  fixed = fixedIn (z .todo)
+
+  abbrev b : ℕ
+  b = turn .b
+
+  abbrev ch : ℕ → Bool
+  ch s = eqb (has s (l .chosen)) 1
+
+  abbrev N' : ℕ
+  N' = z .den * l .count
+
+  abbrev x' : ℕ → ℕ
+  x' s = getD rate' s 0
+
+  abbrev todo' : ℕ
+  todo' = openAfter (z .todo) l
+
+  next-filling : Filling w N' x' (fixedIn todo')
+  next-filling = step w (z .den) x fixed (weights d) (run .filling) b ch N' x' (fixedIn todo') (turn .is-round)
+
+  next-small : SmallDenominator w N' (fixedIn todo')
+  next-small = small-step w (few d) (z .den) x fixed (weights d) (run .filling) b ch N' x' (fixedIn todo') (turn .is-round) (run .small)
+
+  pub den-after : z .den * l .count ≤ 118098
+  den-after = small-32 w (few d) N' (fixedIn todo') next-small
+
+  todo-less : todo' < 2 ^ 32
+  todo-less = omega (arith, and-le-l (z .todo) ((2 ^ 32 - 1) - l .chosen), run .word)
+
+  pub fewer : ones (openAfter (z .todo) l) < ones (z .todo)
+  fewer =
+      omega (
+        arith,
+        falls w (z .den) x fixed (weights d) (run .filling) b ch N' x' (fixedIn todo') (turn .is-round),
+        turn .is-round .some,
+        open-ones d (z .todo) (omega (arith, run .word)),
+        open-ones d todo' todo-less,
+      )
+
+  module _ (links' : Links) (links-are : LinksAfter (z .links) l links') where
+    at-after : (e : ℕ) → e < 64 → getD (links' .at) e 0 ≡ bitAnd (getD (z .links .at) e 0) ((2 ^ 32 - 1) - l .chosen)
+    at-after e h = links-are .at e h ∙ word-after l (getD (z .links .room) e 0) (getD (z .links .at) e 0)
+
+    room-after : (e : ℕ) → e < 64 → 0 < getD (z .links .at) e 0
+        → getD (links' .room) e 0 ≡ getD (z .links .room) e 0 * l .count - l .room * ones (bitAnd (getD (z .links .at) e 0) (l .chosen))
+    unfolding linkAfter
+    room-after e h p = links-are .room e h ∙ rw (ne-eqb (getD (z .links .at) e 0) 0 (λ q. omega arith)) refl
+
+    at-min : (e : ℕ) → e < 64 → (s : ℕ) → s < 32 → has s (getD (links' .at) e 0) ≡ min (has s (getD (z .links .at) e 0)) (1 - has s (l .chosen))
+    at-min e h s k = ap (has s) (at-after e h) ∙ has-without 32 s (getD (z .links .at) e 0) (l .chosen) k small-word
+
+    next-at : (e : ℕ) → e < 64 → (s : ℕ) → s < 32
+        → (T (w .on e s) → has s (getD (links' .at) e 0) ≡ has s todo') × (T (not (w .on e s)) → has s (getD (links' .at) e 0) ≡ 0)
+    next-at e h s k = (
+      λ o. at-min e h s k ∙ rw (run .at e h s k .0 o) (sym (turn .open-after s k)),
+      λ o. at-min e h s k ∙ rw (run .at e h s k .1 o) (omega arith),
+    )
+
+    chosen-count : (e : ℕ) → e < 64
+        → sum (w .sessions) (λ s. part (w .on e s) (part (ch s) (w .weight s))) ≡ ones (bitAnd (getD (z .links .at) e 0) (l .chosen))
+    unfolding net problemOf
+    chosen-count e h =
+        sum-eq 32 (λ s. part (w .on e s) (part (ch s) 1)) (λ s. has s (bitAnd (getD (z .links .at) e 0) (l .chosen)))
+        (λ s k.
+        chosen-part (w .on e s) (has s (getD (z .links .at) e 0)) (has s (z .todo)) (has s (l .chosen)) (has-lt s _) (has-lt s _) (run .at e h s k)
+        (turn .chosen-open s k)
+        ∙ sym (has-and s (getD (z .links .at) e 0) (l .chosen)))
+        ∙ sym
+        (ones-sum 32 (bitAnd (getD (z .links .at) e 0) (l .chosen))
+        (omega (arith, and-le-l (getD (z .links .at) e 0) (l .chosen), run .links .at e h)))
+
+    left-next : (e : ℕ) → e < 64 → 0 < getD (z .links .at) e 0 → getD (links' .room) e 0 ≡ leftAt w N' x' e
+    unfolding net problemOf
+    left-next e h p =
+        let q : 0 < wordOf (z .links) (z .todo) e = rw (word-link d z run e h) p in
+        let f = left-is d z run e (omega arith) q ∙ room-link d z run e h in
+        omega (
+          arith,
+          room-after e h p,
+          left-after w (z .den) x fixed (weights d) (run .filling) b ch N' x' (fixedIn todo') (turn .is-round) e (omega arith),
+          ap (λ (v : ℕ). l .room * v) (chosen-count e h),
+          ap (λ (v : ℕ). v * sum (w .sessions) (λ s. part (w .on e s) (part (ch s) (w .weight s)))) (turn .b-room),
+          ap (λ (v : ℕ). v * leftAt w (z .den) x e) (turn .b-count),
+          ap (λ (v : ℕ). l .count * v) f,
+        )
+
+    next-room : (e : ℕ) → e < 64 → 0 < getD (z .links .at) e 0 → getD (links' .room) e 0 + loadAt w x' e ≡ N' * getD (d .capacity) e 0
+    unfolding leftAt net problemOf
+    next-room e h p =
+        omega (arith, left-next e h p, next-filling .fits e (omega arith), ap (λ (v : ℕ). N' * v) (cap-link (problemOf d) e h))
+
+    next-kept : (e : ℕ) → e < 64 → (c : ℕ) × (0 < c) × (leftAt w N' x' e ≡ c * getD (links' .room) e 0)
+    unfolding net problemOf
+    next-kept e h = go (order (getD (z .links .at) e 0) 0)
+      where
+        go : (getD (z .links .at) e 0 ≤ 0) ⊎ (0 < getD (z .links .at) e 0) → (c : ℕ) × (0 < c) × (leftAt w N' x' e ≡ c * getD (links' .room) e 0)
+        go (inr p) = (1, omega arith, omega (arith, left-next e h p))
+        go (inl n) =
+            let a = run .kept e h in
+            let q : getD (z .links .at) e 0 ≡ 0 = omega arith in
+            let none : ones (bitAnd (getD (z .links .at) e 0) (l .chosen)) ≡ 0 =
+            ap (λ (v : ℕ). ones (bitAnd v (l .chosen))) q ∙ ap ones (and-zero-l (l .chosen)) ∙ ones-zero in
+            let same : getD (links' .room) e 0 ≡ getD (z .links .room) e 0 =
+            links-are .room e h ∙ still-is l (getD (z .links .room) e 0) (getD (z .links .at) e 0) q .0 in
+            let after : leftAt w N' x' e + leftAt w (z .den) x b * 0 ≡ openAt w fixed b * leftAt w (z .den) x e =
+            subst (λ (v : ℕ). leftAt w N' x' e + leftAt w (z .den) x b * v ≡ openAt w fixed b * leftAt w (z .den) x e) (chosen-count e h ∙ none)
+            (left-after w (z .den) x fixed (weights d) (run .filling) b ch N' x' (fixedIn todo') (turn .is-round) e (omega arith)) in (
+              openAt w fixed b * a .0,
+              mul-pos (turn .is-round .some) (a .1),
+              omega (arith, after, ap (λ (v : ℕ). openAt w fixed b * v) (a .2), ap (λ (v : ℕ). openAt w fixed b * a .0 * v) same),
+            )
+
+    next-fit : LinksFit links'
+    next-fit =
+        record {
+          room = λ e h. room e h (order (getD (z .links .at) e 0) 0);
+          at = λ e h. omega (arith, at-after e h, and-le-l (getD (z .links .at) e 0) ((2 ^ 32 - 1) - l .chosen), run .links .at e h);
+          busy = links-are .busy;
+        }
+      where
+        room : (e : ℕ) → e < 64 → (getD (z .links .at) e 0 ≤ 0) ⊎ (0 < getD (z .links .at) e 0) → getD (links' .room) e 0 ≤ 1099511627776
+        room e h (inr p) = omega (arith, next-room e h p, mul-le-mul den-after (run .ranges .capacity e h))
+        room e h (inl n) =
+            omega (
+              arith,
+              still-is l (getD (z .links .room) e 0) (getD (z .links .at) e 0) (omega arith) .0,
+              links-are .room e h,
+              run .links .room e h,
+            )
+
+    pub running : Running d (record { den = z .den * l .count; todo = openAfter (z .todo) l; links = links'; rate = rate' })
+    running =
+        record {
+          ranges = run .ranges;
+          word = omega (arith, todo-less);
+          links = next-fit;
+          rooms = links-are .long;
+          rates = long;
+          filling = next-filling;
+          small = next-small;
+          declared = λ s h. omega (arith, run .declared s h, turn .open-after s h);
+          at = next-at;
+          room = λ e h p. next-room e h (omega (arith, at-after e h, and-le-l (getD (z .links .at) e 0) ((2 ^ 32 - 1) - l .chosen)));
+          kept = next-kept;
+        }

@@ -1,0 +1,5 @@
+-- The definitions that the contracts of filling cite.
+pub mod Lines
+pub mod SmallestShare
+pub mod OneRound
+pub mod Crossings

@@ -1,0 +1,47 @@
+-- The declared lines as a problem of max-min fair rates, the ranges that declarations keep to, and what the calculation answers (01, "The direct
+-- calculation").
+-- Assumes nothing: definitions.
+use mathlib.Core.Bool.{Bool}
+use mathlib.Core.List.{List}
+use mathlib.Core.Path.{_≡_}
+use Prim.Native.Nat.{ℕ, _*_, _+_, _<_, _≤_}
+use lib.Dec.{eqb}
+use lib.ListN.{getD, length}
+use Rattle.sessions.specs.Set.{has}
+use Rattle.fairness.specs.Figure1.{any}
+use Rattle.fairness.specs.MaxMin.{MaxMinFair, Problem, used}
+use Rattle.records.specs.Declaring.{ownLimitOf}
+use Rattle.records.specs.declared.Declared.{Declared}
+use Rattle.filling.specs.declared.Fixed.{Fixed}
+
+-- the path of session s has link e: one of its eight bytes is e
+abbrev pub crossesOf : List ℕ → ℕ → ℕ → Bool
+crossesOf path e s = any 8 (λ h. eqb (getD path (s * 8 + h) 0) e)
+
+-- 64 links and 32 sessions, of which the declared ones are active; a session's own limit D is the smaller of its access rate and its maximum, or the
+-- access rate where there is no maximum (0)
+unfoldable pub problemOf : Declared → Problem
+problemOf d =
+    record {
+      links = 64;
+      sessions = 32;
+      capacity = λ e. getD (d .capacity) e 0;
+      active = λ s. eqb (has s (d .sessions)) 1;
+      D = λ s. ownLimitOf (getD (d .access) s 0) (getD (d .maximum) s 0);
+      crosses = λ e s. crossesOf (d .path) e s;
+    }
+
+-- 01, refusal 5: capacities and access rates are at most 1,000,000; of what is not declared they are 0
+pub record Ranges (d : Declared) : Type 0 where
+  pub capacity : (e : ℕ) → e < 64 → getD (d .capacity) e 0 ≤ 1000000
+  pub access : (s : ℕ) → s < 32 → getD (d .access) s 0 ≤ 1000000
+
+-- the answer: session s gets rate s / den, max-min fair; 01, "Fractions": den is at most 118,098; and a link has no room left
+-- exactly where its capacity is fully used
+pub record Filled (d : Declared) (r : Fixed) : Type 0 where
+  pub fair : MaxMinFair (problemOf d) (r .den) (λ s. getD (r .rate) s 0)
+  pub small : r .den ≤ 118098
+  pub full : (e : ℕ) → e < 64 → getD (r .room) e 0 ≡ 0 → used (problemOf d) (λ s. getD (r .rate) s 0) e ≡ r .den * getD (d .capacity) e 0
+  pub spent : (e : ℕ) → e < 64 → used (problemOf d) (λ s. getD (r .rate) s 0) e ≡ r .den * getD (d .capacity) e 0 → getD (r .room) e 0 ≡ 0
+  pub rates : length (r .rate) ≡ 32
+  pub rooms : length (r .room) ≡ 64

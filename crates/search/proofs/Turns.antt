@@ -1,0 +1,128 @@
+-- The turns and the ends of the loops of the search.
+-- Assumes nothing.
+use mathlib.Core.Bool.{false}
+use mathlib.Core.Logic.{_⊎_, inl, inr}
+use mathlib.Core.List.{List}
+use mathlib.Core.Path.{_≡_, sym, ap, _∙_, subst}
+use Prim.Native.Nat.{ℕ, _+_, _*_, _<_, _≤_, _^_}
+use native.Mathlib.Decide.{decLt, ℕ-discrete}
+use native.Mathlib.Omega.{arith}
+use borrow.Author.Tests.{eqb-false}
+use lib.Count.{trailingZeros}
+use lib.Dec.{eqb}
+use lib.ListN.{getD}
+use Rattle.sessions.specs.Set.{cut, has, put}
+use Rattle.sessions.proofs.Members.{cut-le, has-cut-le, has-cut-other, has-lt, has-or-not, has-put-other, has-put-same, has-zero, put-lt}
+use Rattle.sessions.proofs.Walks.{next-below, next-first, next-has}
+use Rattle.search.specs.Crossing.{AllAt, FirstAt, Meets}
+
+-- THE PATH OF ONE SESSION ---------------------------------------------------------------------------------------------
+
+-- none of the first h bytes of the path of s is one of the links
+abbrev pub NoneOf : List ℕ → ℕ → ℕ → ℕ → Type 0
+NoneOf path links s h = (i : ℕ) → i < h → has (getD path (s * 8 + i) 0) links ≡ 0
+
+pub none-of-more : (path : List ℕ) (links s h : ℕ) → eqb (has (getD path (s * 8 + h) 0) links) 1 ≡ false → NoneOf path links s h
+    → NoneOf path links s (h + 1)
+none-of-more path links s h n w i l = go (decLt i h)
+  where
+    none : (has (getD path (s * 8 + h) 0) links ≡ 0) ⊎ (has (getD path (s * 8 + h) 0) links ≡ 1) → has (getD path (s * 8 + h) 0) links ≡ 0
+    none (inl z) = z
+    none (inr o) = absurd (eqb-false _ _ n o)
+
+    go : Dec (i < h) → has (getD path (s * 8 + i) 0) links ≡ 0
+    go (yes k) = w i k
+    go (no k) =
+        let e : i ≡ h = omega arith in
+        ap (λ (v : ℕ). has (getD path (s * 8 + v) 0) links) e ∙ none (has-or-not _ _)
+
+-- ALL SESSIONS UP TO THE FIRST HIT ------------------------------------------------------------------------------------
+
+-- the sessions of left that are no longer in rest cross none of the links
+abbrev pub Tried : List ℕ → ℕ → ℕ → ℕ → Type 0
+Tried path links left rest = (s : ℕ) → s < 32 → has s left ≡ 1 → has s rest ≡ 0 → Meets path links s → ⊥
+
+pub tried-more : (path : List ℕ) (links left rest t v h : ℕ) → v ≡ cut t rest → h ≡ 8 → NoneOf path links t h → Tried path links left rest
+    → Tried path links left v
+tried-more path links left rest t v h q k n w s l p z m = go (ℕ-discrete t s)
+  where
+    go : Dec (t ≡ s) → ⊥
+    go (yes e) = omega (arith, subst (λ (y : ℕ). has (getD path (y * 8 + m .0) 0) links ≡ 0) e (n (m .0) (omega (arith, m .1))), m .2)
+    go (no e) = w s l p (sym (has-cut-other t s rest e) ∙ sym (ap (has s) q) ∙ z) m
+
+pub first-none : (path : List ℕ) (links left rest r : ℕ) → r ≡ 32 → rest ≡ 0 → Tried path links left rest → FirstAt path left links r
+first-none path links left rest r q z w =
+    record {
+      at-most = omega arith;
+      none-before = λ s h p. w s (omega arith) p (ap (has s) z ∙ has-zero s);
+      hit = λ h. absurd (omega arith);
+    }
+
+pub first-hit : (path : List ℕ) (links left rest t h : ℕ) → 0 < rest → rest < 2 ^ 32 → t ≡ trailingZeros 32 rest
+    → ((s : ℕ) → s < 32 → has s rest ≤ has s left)
+    → h < 8 → has (getD path (t * 8 + h) 0) links ≡ 1 → Tried path links left rest → FirstAt path left links t
+first-hit path links left rest t h p l q sub k x w =
+    let small = next-below 32 rest t p l q in
+    record {
+      at-most = omega arith;
+      none-before = λ s b m. w s (omega arith) m (next-first 32 rest t p l q s b);
+      hit = λ b. (omega (arith, sub t small, has-lt t left, next-has 32 rest t p l q), (h, k, x));
+    }
+
+-- ALL SESSIONS THAT CROSS ---------------------------------------------------------------------------------------------
+
+-- the sessions found so far, and those left to ask for
+pub record Found (path : List ℕ) (todo links found left : ℕ) : Type 0 where
+  pub left-lt : left < 4294967296
+  pub small : found < 4294967296
+  pub sub : (s : ℕ) → s < 32 → has s left ≤ has s todo
+  pub only : (s : ℕ) → s < 32 → has s found ≡ 1 → (has s todo ≡ 1) × Meets path links s
+  pub every : (s : ℕ) → s < 32 → has s todo ≡ 1 → has s left ≡ 0 → Meets path links s → has s found ≡ 1
+
+pub found-none : (path : List ℕ) (todo links : ℕ) → todo < 4294967296 → Found path todo links 0 todo
+found-none path todo links h =
+    record {
+      left-lt = h;
+      small = omega arith;
+      sub = λ s l. omega arith;
+      only = λ s l q. absurd (omega (arith, has-zero s));
+      every = λ s l p q. absurd (omega arith);
+    }
+
+pub found-more : (path : List ℕ) (todo links found left t c v : ℕ) → t < 32 → FirstAt path left links t → c ≡ put t found → v ≡ cut t left
+    → Found path todo links found left → Found path todo links c v
+found-more path todo links found left t c v ht f q r w =
+    record {
+      left-lt = omega (arith, cut-le t left, w .left-lt);
+      small = omega (arith, put-lt 32 t found ht (omega (arith, w .small)));
+      sub = λ s l. omega (arith, ap (has s) r, has-cut-le s t left, w .sub s l);
+      only = λ s l p. only s l p (ℕ-discrete t s);
+      every = λ s l p z m. every s l p z m (ℕ-discrete t s);
+    }
+  where
+    hit : (has t left ≡ 1) × Meets path links t
+    hit = f .hit ht
+
+    only : (s : ℕ) → s < 32 → has s c ≡ 1 → Dec (t ≡ s) → (has s todo ≡ 1) × Meets path links s
+    only s l p (yes e) =
+        subst (λ (y : ℕ). (has y todo ≡ 1) × Meets path links y) e (omega (arith, w .sub t ht, has-lt t todo, hit .0), hit .1)
+    only s l p (no n) = w .only s l (sym (has-put-other t s found n) ∙ sym (ap (has s) q) ∙ p)
+
+    every : (s : ℕ) → s < 32 → has s todo ≡ 1 → has s v ≡ 0 → Meets path links s → Dec (t ≡ s) → has s c ≡ 1
+    every s l p z m (yes e) = ap (has s) q ∙ subst (λ (y : ℕ). has y (put t found) ≡ 1) e (has-put-same t found)
+    every s l p z m (no n) =
+        ap (has s) q ∙ has-put-other t s found n ∙ w .every s l p (sym (has-cut-other t s left n) ∙ sym (ap (has s) r) ∙ z) m
+
+-- nobody left crosses one of the links
+pub found-end : (path : List ℕ) (todo links found left r : ℕ) → 32 ≤ r → FirstAt path left links r → Found path todo links found left
+    → AllAt path todo links found
+found-end path todo links found left r h f w =
+    record { small = w .small; only = w .only; every = λ s l p m. go s l p m (has-or-not s left) }
+  where
+    go : (s : ℕ) → s < 32 → has s todo ≡ 1 → Meets path links s → (has s left ≡ 0) ⊎ (has s left ≡ 1) → has s found ≡ 1
+    go s l p m (inl z) = w .every s l p z m
+    go s l p m (inr z) = absurd (f .none-before s (omega arith) z m)
+
+pub found-all : (path : List ℕ) (todo links found left : ℕ) → left ≡ 0 → Found path todo links found left → AllAt path todo links found
+found-all path todo links found left z w =
+    record { small = w .small; only = w .only; every = λ s l p m. w .every s l p (ap (has s) z ∙ has-zero s) m }

@@ -1,0 +1,23 @@
+-- The sessions of a set that cross a link of a set: the first of them, and all (01, "The direct calculation").
+-- Assumes nothing: definitions.
+use mathlib.Core.List.{List}
+use mathlib.Core.Path.{_≡_}
+use Prim.Native.Nat.{ℕ, _*_, _+_, _<_, _≤_}
+use lib.ListN.{getD}
+use Rattle.sessions.specs.Set.{has}
+
+-- one of the eight bytes of the path of s is a link of the set
+abbrev pub Meets : List ℕ → ℕ → ℕ → Type 0
+Meets path links s = (h : ℕ) × (h < 8) × (has (getD path (s * 8 + h) 0) links ≡ 1)
+
+-- r is the first session of left that crosses one of the links, or 32 where none does
+pub record FirstAt (path : List ℕ) (left links r : ℕ) : Type 0 where
+  pub at-most : r ≤ 32
+  pub none-before : (s : ℕ) → s < r → has s left ≡ 1 → Meets path links s → ⊥
+  pub hit : r < 32 → (has r left ≡ 1) × Meets path links r
+
+-- r has exactly the sessions of todo that cross one of the links
+pub record AllAt (path : List ℕ) (todo links r : ℕ) : Type 0 where
+  pub small : r < 4294967296
+  pub only : (s : ℕ) → s < 32 → has s r ≡ 1 → (has s todo ≡ 1) × Meets path links s
+  pub every : (s : ℕ) → s < 32 → has s todo ≡ 1 → Meets path links s → has s r ≡ 1
