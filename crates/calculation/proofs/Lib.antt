@@ -4,4 +4,5 @@ pub mod Upto
 pub mod Writing
 pub mod SameResults
 pub mod Outcomes
+pub mod BindingPlaces
 mod Examples

@@ -7,7 +7,7 @@ use Prim.Native.Nat.{ℕ, zero, suc, _+_, _≤_}
 use native.Mathlib.Omega.{arith}
 use lib.Dec.{ltb}
 use lib.ListN.{getD, length, replicate, set}
-use Rattle.records.specs.Declaring.{declarationsOf, declareOf, judgeOf, noneDeclared, withLink, withSession}
+use Rattle.records.specs.Declaring.{declarationsOf, declareOf, judging, noneDeclared, withLink, withSession}
 use Rattle.records.specs.Format.{RecordOk, readAt, sizeAt}
 use Rattle.records.specs.Limits.{rateLimit}
 use Rattle.records.specs.Run.{Ran, after, judged, runFrom}
@@ -89,4 +89,4 @@ declare-in-range s d (entry.Deliver n) p h = p
 pub declarations-in-range : (s : List ℕ) → Bytes s → InRange (declarationsOf s .declared)
 unfolding declarationsOf
 declarations-in-range s bytes =
-    run-keeps InRange call.Calculation (judgeOf s) (declareOf s) s bytes (declare-in-range s) (length s) noneDeclared 0 0 none-in-range
+    run-keeps InRange call.Calculation (judging s) (declareOf s) s bytes (declare-in-range s) (length s) noneDeclared 0 0 none-in-range

@@ -75,15 +75,18 @@ withSession d s t access maximum at =
 unfoldable pub pathDeclared : ℕ → List ℕ → ℕ → ℕ → Bool
 pathDeclared links s at n = all n (λ h. hasOf (getD s (at + h) 0) links)
 
--- whether a record of the input s is taken: refusals 7 and 8. The calculation takes no other kinds.
-unfoldable pub judgeOf : List ℕ → Declared → Record → Verdict
-judgeOf s d (entry.Link e capacity) = cond (hasOf e (d .links)) (verdict.Refused refusal.AlreadyThere) verdict.Taken
-judgeOf s d (entry.Session t access maximum n at) =
-    cond (hasOf t (d .sessions)) (verdict.Refused refusal.AlreadyThere)
-    (cond (pathDeclared (d .links) s at n) verdict.Taken (verdict.Refused refusal.UndeclaredLink))
-judgeOf s d (entry.Leave t) = verdict.Refused refusal.KindNotTaken
-judgeOf s d (entry.Change t maximum) = verdict.Refused refusal.KindNotTaken
-judgeOf s d (entry.Deliver position) = verdict.Refused refusal.KindNotTaken
+-- whether a record of the input s is taken, where these links and sessions are declared: refusals 7 and 8. The calculation takes no other kinds.
+unfoldable pub judgeOf : List ℕ → ℕ → ℕ → Record → Verdict
+judgeOf s links sessions (entry.Link e capacity) = cond (hasOf e links) (verdict.Refused refusal.AlreadyThere) verdict.Taken
+judgeOf s links sessions (entry.Session t access maximum n at) =
+    cond (hasOf t sessions) (verdict.Refused refusal.AlreadyThere)
+    (cond (pathDeclared links s at n) verdict.Taken (verdict.Refused refusal.UndeclaredLink))
+judgeOf s links sessions (entry.Leave t) = verdict.Refused refusal.KindNotTaken
+judgeOf s links sessions (entry.Change t maximum) = verdict.Refused refusal.KindNotTaken
+judgeOf s links sessions (entry.Deliver position) = verdict.Refused refusal.KindNotTaken
+
+abbrev pub judging : List ℕ → Declared → Record → Verdict
+judging s d = judgeOf s (d .links) (d .sessions)
 
 -- the declarations with it
 unfoldable pub declareOf : List ℕ → Declared → Record → Declared
@@ -96,5 +99,5 @@ declareOf s d (entry.Deliver position) = d
 -- the declarations of an input: a run of its records, from nothing
 unfoldable pub declarationsOf : List ℕ → Declarations
 declarationsOf s =
-    let r = runOf call.Calculation (judgeOf s) (declareOf s) s noneDeclared in
+    let r = runOf call.Calculation (judging s) (declareOf s) s noneDeclared in
     record { declared = r .state; taken = r .taken; end = r .end }

@@ -464,13 +464,13 @@ pub fn path_declared(links: u64, s: &[u8], at: usize, n: usize) -> bool
 }
 
 // Whether a record is taken: refusals 7 and 8.
-fn judge(d: Declared, s: &[u8], x: Record) -> Verdict
+fn judge(links: u64, declared: u32, s: &[u8], x: Record) -> Verdict
     requires { ⌜ RecordOk (now s) x ⌝ }
-    ensures { λ r. ⌜ r ≡ judgeOf (now (s .entry)) d x ⌝ }
+    ensures { λ r. ⌜ r ≡ judgeOf (now (s .entry)) links declared x ⌝ }
 {
     match x {
         Record::Link { link, capacity: _ } => {
-            if sessions::has_link(d.links, link) {
+            if sessions::has_link(links, link) {
                 return Verdict::Refused(Refusal::AlreadyThere);
             }
             Verdict::Taken
@@ -482,10 +482,10 @@ fn judge(d: Declared, s: &[u8], x: Record) -> Verdict
             size,
             path,
         } => {
-            if sessions::has(d.sessions, session) {
+            if sessions::has(declared, session) {
                 return Verdict::Refused(Refusal::AlreadyThere);
             }
-            if !path_declared(d.links, s, path, size) {
+            if !path_declared(links, s, path, size) {
                 return Verdict::Refused(Refusal::UndeclaredLink);
             }
             Verdict::Taken
@@ -533,13 +533,13 @@ pub fn weigh(v: Verdict, x: Record) -> Read
 }
 
 // The next record, or why it is refused.
-fn next(d: Declared, s: &[u8], at: usize) -> Read
+fn next(links: u64, declared: u32, s: &[u8], at: usize) -> Read
     requires { ⌜ at < length (now s) ⌝ }
-    ensures { λ r. ⌜ r ≡ judged (readAt call.Calculation (now (s .entry)) at) (judgeOf (now (s .entry)) d) ⌝ }
+    ensures { λ r. ⌜ r ≡ judged (readAt call.Calculation (now (s .entry)) at) (judgeOf (now (s .entry)) links declared) ⌝ }
 {
     let read = read_at(Call::Calculation, s, at);
     match read {
-        Read::Record(x) => weigh(judge(d, s, x), x),
+        Read::Record(x) => weigh(judge(links, declared, s, x), x),
         Read::Refused(r) => Read::Refused(r),
     }
 }
@@ -560,7 +560,9 @@ pub fn declare_all(s: &[u8]) -> Declarations
     let mut at: usize = 0;
     let mut n: usize = 0;
     while at < s.len() {
-        let x = next(d, s, at);
+        let links = d.links;
+        let declared = d.sessions;
+        let x = next(links, declared, s, at);
         match x {
             Read::Record(y) => {
                 d = declare(d, s, y);

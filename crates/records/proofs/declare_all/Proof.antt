@@ -8,7 +8,7 @@ use native.Mathlib.Omega.{arith}
 use native.Mathlib.Nat.{sub-zero}
 use lib.ListN.{length}
 use Rattle.records.specs.Run.{Ran, runFrom, runOf}
-use Rattle.records.specs.Declaring.{declarationsOf, declareOf, judgeOf, noneDeclared}
+use Rattle.records.specs.Declaring.{declarationsOf, declareOf, judging, noneDeclared}
 use Rattle.records.specs.declared.Call.the-variants as call
 use Rattle.records.specs.declared.Declarations.{Declarations}
 use Rattle.records.specs.declared.Declared.{Declared}
@@ -20,7 +20,7 @@ use Rattle.records.proofs.declare_all.Tie as tie
 abbrev Inv-loop : tie.InvT-loop
 Inv-loop s d₀ at₀ n₀ d at n =
     (n ≤ at) × (at ≤ length s)
-    × (runFrom call.Calculation (judgeOf s) (declareOf s) s (length s - n) d n at ≡ runOf call.Calculation (judgeOf s) (declareOf s) s noneDeclared)
+    × (runFrom call.Calculation (judging s) (declareOf s) s (length s - n) d n at ≡ runOf call.Calculation (judging s) (declareOf s) s noneDeclared)
 
 abbrev μ-loop : tie.MeasureT-loop
 μ-loop s d₀ at₀ n₀ d at n = length s - at
@@ -36,7 +36,7 @@ ends c =
     let l = c .before .before .before .before .before .before .before .loop in (
       c .size-at .ensures .1,
       rw (c .size-at .ensures .0)
-          (judged-record-ends call.Calculation s (l .at) (judgeOf s (l .d)) _ (sym (c .before .before .before .before .before .next .ensures) ∙ c .before .before .before .x .given .1)),
+          (judged-record-ends call.Calculation s (l .at) (judging s (l .d)) _ (sym (c .before .before .before .before .before .next .ensures) ∙ c .before .before .before .x .given .1)),
     )
 
 none-declared-requires : tie.Need-none-declared-requires Inv-loop μ-loop
@@ -55,7 +55,7 @@ declare-requires : tie.Need-declare-requires Inv-loop μ-loop
 declare-requires c κs =
     let s = now (c .before .before .before .before .before .before .before .before .args .s) in
     let l = c .before .before .before .before .before .loop in
-    judged-record-ok call.Calculation s (l .at) (judgeOf s (l .d)) _ (sym (c .before .before .before .next .ensures) ∙ c .before .x .given .1) (λ i. omega (arith, c .before .before .before .before .before .before .before .shared-slice-known .given i))
+    judged-record-ok call.Calculation s (l .at) (judging s (l .d)) _ (sym (c .before .before .before .next .ensures) ∙ c .before .x .given .1) (λ i. omega (arith, c .before .before .before .before .before .before .before .shared-slice-known .given i))
 
 size-at-requires : tie.Need-size-at-requires Inv-loop μ-loop
 size-at-requires c κs = omega arith
@@ -76,7 +76,7 @@ loop-again c =
       omega (arith, ends c),
       omega (arith, ends c),
       rw (c .size-at .ensures .0, c .before .declare .ensures)
-          (sym (run-taken call.Calculation (judgeOf s) (declareOf s) s (l .d) (l .n) (l .at) _ (l .inv .0) (c .before .before .before .before .before .before .loop-test .taken) (sym (c .before .before .before .before .before .next .ensures) ∙ c .before .before .before .x .given .1))
+          (sym (run-taken call.Calculation (judging s) (declareOf s) s (l .d) (l .n) (l .at) _ (l .inv .0) (c .before .before .before .before .before .before .loop-test .taken) (sym (c .before .before .before .before .before .next .ensures) ∙ c .before .before .before .x .given .1))
           ∙ l .inv .2),
     )
 
@@ -88,14 +88,14 @@ unfolding declarationsOf
 returns c = let s = now (c .before .before .before .before .before .before .before .before .args .s) in
     let l = c .before .before .before .before .before .loop in
     ap shown
-    (sym (run-refused call.Calculation (judgeOf s) (declareOf s) s (l .d) (l .n) (l .at) _ (l .inv .0) (c .before .before .before .before .loop-test .taken) (sym (c .before .before .before .next .ensures) ∙ c .before .x2 .given .1))
+    (sym (run-refused call.Calculation (judging s) (declareOf s) s (l .d) (l .n) (l .at) _ (l .inv .0) (c .before .before .before .before .loop-test .taken) (sym (c .before .before .before .next .ensures) ∙ c .before .x2 .given .1))
     ∙ l .inv .2)
 
 returns-2 : tie.Need-returns-2 Inv-loop μ-loop
 unfolding declarationsOf
 returns-2 c = let s = now (c .before .before .before .before .args .s) in
     let l = c .before .loop in
-    ap shown (sym (run-end call.Calculation (judgeOf s) (declareOf s) s (length s - l .n) (l .d) (l .n) (l .at) (c .loop-test .left)) ∙ l .inv .2)
+    ap shown (sym (run-end call.Calculation (judging s) (declareOf s) s (length s - l .n) (l .d) (l .n) (l .at) (c .loop-test .left)) ∙ l .inv .2)
 
 pub declare-all-spec : {M : Type 1} → statement M
 declare-all-spec =

@@ -36,12 +36,12 @@ returns c =
     let q = sym (c .before .before .before .before .before .read-at .ensures) ∙ c .before .before .before .read .given .1 in
     c .weigh .ensures
     ∙ (ap (λ (v : Verdict). weighed v (c .before .before .before .read .given .0 .0)) (c .before .judge .ensures)
-    ∙ sym (ap (λ (r : Read). judged r (judgeOf (now (c .before .before .before .before .before .before .before .args .s)) (c .before .before .before .before .before .before .before .args .d))) q))
+    ∙ sym (ap (λ (r : Read). judged r (judgeOf (now (c .before .before .before .before .before .before .before .args .s)) (c .before .before .before .before .before .before .before .args .links) (c .before .before .before .before .before .before .before .args .declared))) q))
 
 returns-2 : tie.Need-returns-2
 returns-2 c =
     let q = sym (c .before .before .before .read-at .ensures) ∙ c .before .read2 .given .1 in
-    sym (ap (λ (r : Read). judged r (judgeOf (now (c .before .before .before .before .before .args .s)) (c .before .before .before .before .before .args .d))) q)
+    sym (ap (λ (r : Read). judged r (judgeOf (now (c .before .before .before .before .before .args .s)) (c .before .before .before .before .before .args .links) (c .before .before .before .before .before .args .declared))) q)
 
 pub next-spec : {M : Type 1} → statement M
 next-spec =

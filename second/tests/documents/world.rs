@@ -1,0 +1,133 @@
+//! Random events over a few links and sessions: joins, changes, leaves, deliveries in and out of turn,
+//! and damaged bytes.
+
+use crate::common::{change, deliver, is_in_turn, leave, link, session, Random};
+use second::machine::table::Packet;
+
+/// How the next packet to deliver is chosen, one way for a whole run.
+#[derive(Clone, Copy)]
+enum Turn {
+    Random,
+    EarliestSent,
+    LatestSent,
+    /// Packets of one session wait until there are no others.
+    Starving(u64),
+    /// Packets on one way wait until there are no others.
+    OneWayLast(u64),
+}
+
+/// The links and sessions of a run, and what it has met.
+pub struct World {
+    pub random: Random,
+    pub links: Vec<u8>,
+    sessions: Vec<u8>,
+    turn: Turn,
+    largest_rate: u32,
+}
+
+pub fn world(mut random: Random, most_links: usize, most_sessions: usize) -> World {
+    let mut numbers: Vec<u8> = (0..64).collect();
+    let links = (0..1 + random.under(most_links))
+        .map(|_| numbers.swap_remove(random.under(numbers.len())))
+        .collect();
+    let mut numbers: Vec<u8> = (0..32).collect();
+    let sessions: Vec<u8> = (0..1 + random.under(most_sessions))
+        .map(|_| numbers.swap_remove(random.under(numbers.len())))
+        .collect();
+    let turn = match random.under(6) {
+        0 | 1 => Turn::Random,
+        2 => Turn::EarliestSent,
+        3 => Turn::LatestSent,
+        4 => Turn::Starving(u64::from(random.one_of(&sessions))),
+        _ => Turn::OneWayLast(random.next() % 2),
+    };
+    World {
+        largest_rate: random.one_of(&[6, 30, 1_000_000]),
+        random,
+        links,
+        sessions,
+        turn,
+    }
+}
+
+impl World {
+    pub fn rate(&mut self) -> u32 {
+        1 + self.random.under(self.largest_rate as usize) as u32
+    }
+
+    fn maximum(&mut self) -> u32 {
+        match self.random.chance(40) {
+            true => 0,
+            false => self.rate(),
+        }
+    }
+
+    fn join(&mut self) -> Vec<u8> {
+        let number = self.random.one_of(&self.sessions);
+        let path = self.random.path(&self.links);
+        session(number, self.rate(), self.maximum(), &path)
+    }
+
+    // A new link may be declared at any time; a link twice is refused.
+    fn declaration(&mut self) -> Vec<u8> {
+        let number = self.random.one_of(&self.links);
+        link(number, self.rate())
+    }
+
+    fn change(&mut self) -> Vec<u8> {
+        let number = self.random.one_of(&self.sessions);
+        change(number, self.maximum())
+    }
+
+    // A position that is in turn, if there is a packet.
+    pub fn delivery(&mut self, packets: &[Packet]) -> Option<Vec<u8>> {
+        let in_turn: Vec<usize> = (0..packets.len())
+            .filter(|&position| is_in_turn(packets, position))
+            .collect();
+        let waits = |&position: &usize| match self.turn {
+            Turn::Starving(session) => packets[position].session == session,
+            Turn::OneWayLast(direction) => packets[position].direction == direction,
+            _ => false,
+        };
+        let (last, first): (Vec<usize>, Vec<usize>) = in_turn.into_iter().partition(waits);
+        let choices = if first.is_empty() { last } else { first };
+        let position = match (self.turn, choices.as_slice()) {
+            (_, []) => return None,
+            (Turn::EarliestSent, choices) => choices[0],
+            (Turn::LatestSent, choices) => choices[choices.len() - 1],
+            (_, choices) => self.random.one_of(choices),
+        };
+        Some(deliver(position as u16))
+    }
+
+    // Any record with a few bytes overwritten, cut off, or followed by others.
+    fn damaged(&mut self, packets: &[Packet]) -> Vec<u8> {
+        let mut bytes = match self.random.under(3) {
+            0 => self.join(),
+            1 => self.change(),
+            _ => self.delivery(packets).unwrap_or_default(),
+        };
+        for _ in 0..self.random.under(3) {
+            if !bytes.is_empty() {
+                let place = self.random.under(bytes.len());
+                bytes[place] = self.random.one_of(&[0, 1, 2, 5, 8, 31, 32, 63, 64, 255]);
+            }
+        }
+        if self.random.chance(20) {
+            bytes.truncate(self.random.under(bytes.len() + 1));
+        }
+        bytes
+    }
+
+    pub fn event(&mut self, packets: &[Packet]) -> Vec<u8> {
+        match self.random.under(100) {
+            0..=11 => self.join(),
+            12..=19 => self.change(),
+            20..=25 => leave(self.random.one_of(&self.sessions)),
+            26 => self.declaration(),
+            27..=29 => deliver(self.random.under(packets.len() + 2) as u16),
+            30..=33 => self.damaged(packets),
+            _ => self.delivery(packets).unwrap_or_else(|| self.join()),
+        }
+    }
+}
