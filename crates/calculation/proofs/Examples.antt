@@ -10,7 +10,7 @@ use Rattle.sessions.specs.Set.{cut, has, membersFrom, put, walk}
 use Rattle.fairness.specs.Figure1.{any, begin, chosen, counts, figure1, fixAt, leftAt, lefts, loadAt, net, oneRound, openAll, openAt, roundOn, rounds, smaller, smallest, values}
 use Rattle.fairness.specs.MaxMin.{used}
 use Rattle.fairness.specs.Sum.{sum}
-use Rattle.records.specs.Declaring.{declarationsOf, declareOf, judgeOf, noneDeclared, ownLimitOf, pathDeclared, withLink, withPath, withSession}
+use Rattle.records.specs.Declaring.{copied, declarationsOf, declareOf, judgeOf, noneDeclared, ownLimitOf, pathDeclared}
 use Rattle.records.specs.Format.{all, be2, be4, bodyAt, bodyOf, changeAt, deliverAt, differ, isNew, leaveAt, linkAt, linksOk, pathOk, readAt, restOk, sessionAt, sizeAt}
 use Rattle.records.specs.Run.{runFrom}
 use Rattle.records.specs.declared.Refusal.the-variants as refusal
@@ -101,5 +101,5 @@ each f (x ∷ xs) = f x ∷ each f xs
 
 -- every example has the outcome that 01 gives
 examples-right : each (λ x. calculateOf (x .input) nines nines nines) examples ≡ each (λ x. x .outcome) examples
-unfolding examples each calculateOf doneOf resultsOf written declarationsOf declareOf judgeOf noneDeclared pathDeclared withLink withPath withSession ownLimitOf all be2 be4 bodyAt bodyOf changeAt deliverAt differ isNew leaveAt linkAt linksOk pathOk readAt restOk sessionAt sizeAt runFrom problemOf bindingOf firstOf used sum figure1 begin net rounds oneRound roundOn fixAt lefts counts smallest smaller chosen any values openAll openAt leftAt loadAt lowestOf gcdOf gcdIn membersFrom walk has put cut
+unfolding examples each calculateOf doneOf resultsOf written declarationsOf declareOf judgeOf noneDeclared pathDeclared copied ownLimitOf all be2 be4 bodyAt bodyOf changeAt deliverAt differ isNew leaveAt linkAt linksOk pathOk readAt restOk sessionAt sizeAt runFrom problemOf bindingOf firstOf used sum figure1 begin net rounds oneRound roundOn fixAt lefts counts smallest smaller chosen any values openAll openAt leftAt loadAt lowestOf gcdOf gcdIn membersFrom walk has put cut
 examples-right = refl

@@ -7,7 +7,7 @@ use Prim.Native.Nat.{ℕ, zero, suc, _+_, _≤_}
 use native.Mathlib.Omega.{arith}
 use lib.Dec.{ltb}
 use lib.ListN.{getD, length, replicate, set}
-use Rattle.records.specs.Declaring.{declarationsOf, declareOf, judging, noneDeclared, withLink, withSession}
+use Rattle.records.specs.Declaring.{declarationsOf, declareOf, judging, noneDeclared}
 use Rattle.records.specs.Format.{RecordOk, readAt, sizeAt}
 use Rattle.records.specs.Limits.{rateLimit}
 use Rattle.records.specs.Run.{Ran, after, judged, runFrom}
@@ -73,7 +73,7 @@ unfolding noneDeclared
 none-in-range = record { capacity = zeros-at-most _ 64; access = zeros-at-most _ 32; maximum = zeros-at-most _ 32 }
 
 declare-in-range : (s : List ℕ) (d : Declared) (x : Record) → InRange d → RecordOk s x → InRange (declareOf s d x)
-unfolding declareOf withLink withSession
+unfolding declareOf
 declare-in-range s d (entry.Link e c) p h =
     record { capacity = set-at-most _ (d .capacity) e c (h .2) (p .capacity); access = p .access; maximum = p .maximum }
 declare-in-range s d (entry.Session t a m n at) p h =
@@ -82,9 +82,9 @@ declare-in-range s d (entry.Session t a m n at) p h =
       access = set-at-most _ (d .access) t a (h .2) (p .access);
       maximum = set-at-most _ (d .maximum) t m (h .3) (p .maximum);
     }
-declare-in-range s d (entry.Leave t) p h = p
-declare-in-range s d (entry.Change t m) p h = p
-declare-in-range s d (entry.Deliver n) p h = p
+declare-in-range s d (entry.Leave t) p h = record { capacity = p .capacity; access = p .access; maximum = p .maximum }
+declare-in-range s d (entry.Change t m) p h = record { capacity = p .capacity; access = p .access; maximum = p .maximum }
+declare-in-range s d (entry.Deliver n) p h = record { capacity = p .capacity; access = p .access; maximum = p .maximum }
 
 pub declarations-in-range : (s : List ℕ) → Bytes s → InRange (declarationsOf s .declared)
 unfolding declarationsOf

@@ -3,7 +3,6 @@ pub mod Alls
 pub mod Bodies
 pub mod TakenKinds
 pub mod OwnLimit
-pub mod Paths
 pub mod ReadRecords
 pub mod Runs
 pub mod KeepsRanges

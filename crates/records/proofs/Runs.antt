@@ -6,6 +6,8 @@ use Prim.Native.Nat.{ℕ, zero, suc, _+_, _-_, _≤_, _<_}
 use native.Mathlib.Omega.{arith}
 use borrow.Author.Tests.{le-ltb, lt-ltb}
 use lib.ListN.{length}
+use Rattle.records.specs.Declaring.{accessOf, capacityOf, declareOf, linksOf, maximumOf, pathOf, sessionsOf}
+use Rattle.records.specs.declared.Declared.{Declared}
 use Rattle.records.specs.Format.{readAt, sizeAt}
 use Rattle.records.specs.Run.{judged, runFrom}
 use Rattle.records.specs.declared.Call.{Call}
@@ -37,3 +39,12 @@ module _ {S : Type 0} (c : Call) (judge : S → Record → Verdict) (act : S →
       → runFrom c judge act s (length s - n) z n at ≡ record { state = z; taken = n; end = end.Refused r at }
   unfolding runFrom
   run-refused z n at r a b e = rw (fuel (length s) n (omega arith), lt-ltb at (length s) b, e)
+
+-- declarations whose fields are those that a record leaves are what it declares
+pub declared-by : (s : List ℕ) (d : Declared) (x : Record) (links : ℕ) (capacity : List ℕ) (sessions : ℕ) (access maximum path : List ℕ)
+    → links ≡ linksOf (d .links) x → capacity ≡ capacityOf (d .capacity) x → sessions ≡ sessionsOf (d .sessions) x
+    → access ≡ accessOf (d .access) x → maximum ≡ maximumOf (d .maximum) x → path ≡ pathOf s (d .path) x
+    → record { links = links; capacity = capacity; sessions = sessions; access = access; maximum = maximum; path = path } ≡ declareOf s d x
+unfolding declareOf
+declared-by s d x links capacity sessions access maximum path a b c e f g =
+    λ i. record { links = a i; capacity = b i; sessions = c i; access = e i; maximum = f i; path = g i }

@@ -2,10 +2,9 @@
 -- Assumes nothing: definitions.
 use mathlib.Core.Bool.{Bool, cond}
 use mathlib.Core.List.{List}
-use Prim.Native.Nat.{ℕ, _+_, _*_}
+use Prim.Native.Nat.{ℕ, zero, suc, _+_, _*_}
 use lib.Dec.{eqb, leb}
-use lib.ListN.{drop, getD, replicate, set}
-use lib.Seq.{paste}
+use lib.ListN.{getD, replicate, set}
 use Rattle.sessions.specs.Set.{hasOf, put}
 use Rattle.records.specs.Format.{all}
 use Rattle.records.specs.Limits.{pathLimit}
@@ -35,42 +34,6 @@ noneDeclared =
       path = replicate 256 255;
     }
 
--- link e is declared
-unfoldable pub withLink : Declared → ℕ → ℕ → Declared
-withLink d e capacity =
-    record {
-      links = put e (d .links);
-      capacity = set (d .capacity) e capacity;
-      sessions = d .sessions;
-      access = d .access;
-      maximum = d .maximum;
-      path = d .path;
-    }
-
--- the eight path bytes of session t are those of s from place `at` on
-unfoldable pub withPath : Declared → List ℕ → ℕ → ℕ → Declared
-withPath d s t at =
-    record {
-      links = d .links;
-      capacity = d .capacity;
-      sessions = d .sessions;
-      access = d .access;
-      maximum = d .maximum;
-      path = paste (d .path) (t * pathLimit) (drop at s) pathLimit;
-    }
-
--- session t is declared
-unfoldable pub withSession : Declared → List ℕ → ℕ → ℕ → ℕ → ℕ → Declared
-withSession d s t access maximum at =
-    record {
-      links = d .links;
-      capacity = d .capacity;
-      sessions = put t (d .sessions);
-      access = set (d .access) t access;
-      maximum = set (d .maximum) t maximum;
-      path = withPath d s t at .path;
-    }
-
 -- refusal 8: all n links of the path from a place on are declared
 unfoldable pub pathDeclared : ℕ → List ℕ → ℕ → ℕ → Bool
 pathDeclared links s at n = all n (λ h. hasOf (getD s (at + h) 0) links)
@@ -88,13 +51,67 @@ judgeOf s links sessions (entry.Deliver position) = verdict.Refused refusal.Kind
 abbrev pub judging : List ℕ → Declared → Record → Verdict
 judging s d = judgeOf s (d .links) (d .sessions)
 
--- the declarations with it
+-- what a record declares, field by field: a link, its capacity
+abbrev pub linksOf : ℕ → Record → ℕ
+linksOf w (entry.Link e capacity) = put e w
+linksOf w (entry.Session t access maximum n at) = w
+linksOf w (entry.Leave t) = w
+linksOf w (entry.Change t maximum) = w
+linksOf w (entry.Deliver position) = w
+
+abbrev pub capacityOf : List ℕ → Record → List ℕ
+capacityOf l (entry.Link e capacity) = set l e capacity
+capacityOf l (entry.Session t access maximum n at) = l
+capacityOf l (entry.Leave t) = l
+capacityOf l (entry.Change t maximum) = l
+capacityOf l (entry.Deliver position) = l
+
+-- a session, its access rate, its maximum
+abbrev pub sessionsOf : ℕ → Record → ℕ
+sessionsOf w (entry.Link e capacity) = w
+sessionsOf w (entry.Session t access maximum n at) = put t w
+sessionsOf w (entry.Leave t) = w
+sessionsOf w (entry.Change t maximum) = w
+sessionsOf w (entry.Deliver position) = w
+
+abbrev pub accessOf : List ℕ → Record → List ℕ
+accessOf l (entry.Link e capacity) = l
+accessOf l (entry.Session t access maximum n at) = set l t access
+accessOf l (entry.Leave t) = l
+accessOf l (entry.Change t maximum) = l
+accessOf l (entry.Deliver position) = l
+
+abbrev pub maximumOf : List ℕ → Record → List ℕ
+maximumOf l (entry.Link e capacity) = l
+maximumOf l (entry.Session t access maximum n at) = set l t maximum
+maximumOf l (entry.Leave t) = l
+maximumOf l (entry.Change t maximum) = l
+maximumOf l (entry.Deliver position) = l
+
+-- the first k bytes of s from place `at` on, copied into l from a place on
+unfoldable pub copied : ℕ → List ℕ → ℕ → List ℕ → ℕ → List ℕ
+copied zero l from s at = l
+copied (suc k) l from s at = set (copied k l from s at) (from + k) (getD s (at + k) 0)
+
+-- and its eight path bytes, which stand in the input s
+abbrev pub pathOf : List ℕ → List ℕ → Record → List ℕ
+pathOf s l (entry.Link e capacity) = l
+pathOf s l (entry.Session t access maximum n at) = copied pathLimit l (t * pathLimit) s at
+pathOf s l (entry.Leave t) = l
+pathOf s l (entry.Change t maximum) = l
+pathOf s l (entry.Deliver position) = l
+
+-- the declarations with a record of the input s
 unfoldable pub declareOf : List ℕ → Declared → Record → Declared
-declareOf s d (entry.Link e capacity) = withLink d e capacity
-declareOf s d (entry.Session t access maximum n at) = withSession d s t access maximum at
-declareOf s d (entry.Leave t) = d
-declareOf s d (entry.Change t maximum) = d
-declareOf s d (entry.Deliver position) = d
+declareOf s d x =
+    record {
+      links = linksOf (d .links) x;
+      capacity = capacityOf (d .capacity) x;
+      sessions = sessionsOf (d .sessions) x;
+      access = accessOf (d .access) x;
+      maximum = maximumOf (d .maximum) x;
+      path = pathOf s (d .path) x;
+    }
 
 -- the declarations of an input: a run of its records, from nothing
 unfoldable pub declarationsOf : List ℕ → Declarations

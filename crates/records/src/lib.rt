@@ -1,12 +1,12 @@
 // The sites' records: the limits, the refusals and their numbers, one record read at a place, and the declared links and sessions (01, "Records").
 ghost use mathlib.Core.Path.{_≡_};
 ghost use Prim.Native.Nat.{ℕ, _+_, _*_, _≤_, _<_};
-ghost use lib.ListN.{getD, length};
+ghost use lib.ListN.{getD, length, replicate};
 ghost use Rattle.records.specs.Refusals.{numberOf};
 ghost use Rattle.records.specs.Format.{be2, be4, takesOf, bodyOf, rateOk, linksOk, isNew, differ, restOk, pathOk, linkAt, sessionAt, leaveAt, changeAt, deliverAt, bodyAt, sizeAt, readAt, RecordOk};
 ghost use Rattle.records.specs.Run.{weighed, judged};
 ghost use Rattle.records.specs.declared.Call.the-variants as call;
-ghost use Rattle.records.specs.Declaring.{ownLimitOf, noneDeclared, withLink, withPath, withSession, pathDeclared, judgeOf, declareOf, declarationsOf};
+ghost use Rattle.records.specs.Declaring.{ownLimitOf, pathDeclared, judgeOf, linksOf, capacityOf, sessionsOf, accessOf, maximumOf, copied, pathOf, declarationsOf};
 
 // 64 links, 32 sessions, paths of at most 8 links, rates of at most 1,000,000 kbit/s, 256 packets, 32,768 bytes of input.
 pub const LINKS: usize = 64;
@@ -398,58 +398,6 @@ pub fn own_limit(access: u64, maximum: u64) -> u64
     maximum
 }
 
-// Nothing is declared.
-pub fn none_declared() -> Declared
-    ensures { λ r. ⌜ r ≡ noneDeclared ⌝ }
-{
-    Declared {
-        links: 0,
-        capacity: [0; 64],
-        sessions: 0,
-        access: [0; 32],
-        maximum: [0; 32],
-        path: [255; 256],
-    }
-}
-
-// Link e is declared.
-pub fn with_link(d: Declared, e: u32, capacity: u64) -> Declared
-    requires { ⌜ e < 64 ⌝ }
-    ensures { λ r. ⌜ r ≡ withLink d e capacity ⌝ }
-{
-    let mut next = d;
-    let i = e as usize;
-    next.links = sessions::put_link(next.links, e);
-    next.capacity[i] = capacity;
-    next
-}
-
-// The declarations with the eight path bytes of session t.
-fn with_path(d: Declared, s: &[u8], t: u32, at: usize) -> Declared
-    requires { ⌜ (t < 32) × (at + 8 ≤ length (now s)) ⌝ }
-    ensures { λ r. ⌜ r ≡ withPath d (now (s .entry)) t at ⌝ }
-{
-    let mut next = d;
-    let from = (t as usize) * 8;
-    for h in 0..8usize {
-        next.path[from + h] = s[at + h];
-    }
-    next
-}
-
-// Session t is declared.
-pub fn with_session(d: Declared, s: &[u8], t: u32, access: u64, maximum: u64, at: usize) -> Declared
-    requires { ⌜ (t < 32) × (at + 8 ≤ length (now s)) ⌝ }
-    ensures { λ r. ⌜ r ≡ withSession d (now (s .entry)) t access maximum at ⌝ }
-{
-    let mut next = with_path(d, s, t, at);
-    let i = t as usize;
-    next.sessions = sessions::put(next.sessions, t);
-    next.access[i] = access;
-    next.maximum[i] = maximum;
-    next
-}
-
 // Whether all n links of a path are declared.
 pub fn path_declared(links: u64, s: &[u8], at: usize, n: usize) -> bool
     requires { ⌜ (n ≤ 8) × (at + 8 ≤ length (now s)) ⌝ }
@@ -499,26 +447,106 @@ fn judge(links: u64, declared: u32, s: &[u8], x: Record) -> Verdict
     }
 }
 
-// The declarations with a record that is taken.
-fn declare(d: Declared, s: &[u8], x: Record) -> Declared
+// The declared links with a record that is taken.
+fn with_link(links: u64, s: &[u8], x: Record) -> u64
     requires { ⌜ RecordOk (now s) x ⌝ }
-    ensures { λ r. ⌜ r ≡ declareOf (now (s .entry)) d x ⌝ }
+    ensures { λ r. ⌜ r ≡ linksOf links x ⌝ }
 {
     match x {
-        Record::Link { link, capacity } => with_link(d, link, capacity),
+        Record::Link { link, capacity: _ } => sessions::put_link(links, link),
         Record::Session {
-            session,
-            access,
-            maximum,
+            session: _,
+            access: _,
+            maximum: _,
             size: _,
-            path,
-        } => with_session(d, s, session, access, maximum, path),
-        Record::Leave { session: _ } => d,
+            path: _,
+        } => links,
+        Record::Leave { session: _ } => links,
         Record::Change {
             session: _,
             maximum: _,
-        } => d,
-        Record::Deliver { position: _ } => d,
+        } => links,
+        Record::Deliver { position: _ } => links,
+    }
+}
+
+// The declared sessions with a record that is taken.
+fn with_session(declared: u32, s: &[u8], x: Record) -> u32
+    requires { ⌜ RecordOk (now s) x ⌝ }
+    ensures { λ r. ⌜ r ≡ sessionsOf declared x ⌝ }
+{
+    match x {
+        Record::Link {
+            link: _,
+            capacity: _,
+        } => declared,
+        Record::Session {
+            session,
+            access: _,
+            maximum: _,
+            size: _,
+            path: _,
+        } => sessions::put(declared, session),
+        Record::Leave { session: _ } => declared,
+        Record::Change {
+            session: _,
+            maximum: _,
+        } => declared,
+        Record::Deliver { position: _ } => declared,
+    }
+}
+
+// The eight path bytes of session t.
+fn copy_path(path: &mut [u8; 256], s: &[u8], t: u32, at: usize)
+    requires { ⌜ (t < 32) × (at + 8 ≤ length (now s)) ⌝ }
+    ensures { λ r. ⌜ now (path .exit) ≡ copied 8 (now (path .entry)) (t * 8) (now (s .entry)) at ⌝ }
+{
+    let from = (t as usize) * 8;
+    for h in 0..8usize {
+        path[from + h] = s[at + h];
+    }
+}
+
+// What a record that is taken declares, written where it stands.
+fn declare(
+    capacity: &mut [u64; 64],
+    access: &mut [u64; 32],
+    maximum: &mut [u64; 32],
+    path: &mut [u8; 256],
+    s: &[u8],
+    x: Record,
+)
+    requires { ⌜ RecordOk (now s) x ⌝ }
+    ensures { λ r. ⌜ (now (capacity .exit) ≡ capacityOf (now (capacity .entry)) x)
+        × (now (access .exit) ≡ accessOf (now (access .entry)) x)
+        × (now (maximum .exit) ≡ maximumOf (now (maximum .entry)) x)
+        × (now (path .exit) ≡ pathOf (now (s .entry)) (now (path .entry)) x) ⌝ }
+{
+    match x {
+        Record::Link {
+            link,
+            capacity: value,
+        } => {
+            capacity[link as usize] = value;
+        }
+        Record::Session {
+            session,
+            access: rate,
+            maximum: most,
+            size: _,
+            path: at,
+        } => {
+            let i = session as usize;
+            access[i] = rate;
+            maximum[i] = most;
+            copy_path(path, s, session, at);
+        }
+        Record::Leave { session: _ } => {}
+        Record::Change {
+            session: _,
+            maximum: _,
+        } => {}
+        Record::Deliver { position: _ } => {}
     }
 }
 
@@ -552,26 +580,56 @@ pub fn size_at(s: &[u8], at: usize) -> usize
     1 + body(s[at])
 }
 
+fn no_capacities() -> [u64; 64]
+    ensures { λ r. ⌜ r ≡ replicate 64 0 ⌝ }
+{
+    [0; 64]
+}
+
+fn no_rates() -> [u64; 32]
+    ensures { λ r. ⌜ r ≡ replicate 32 0 ⌝ }
+{
+    [0; 32]
+}
+
+fn no_paths() -> [u8; 256]
+    ensures { λ r. ⌜ r ≡ replicate 256 255 ⌝ }
+{
+    [255; 256]
+}
+
 // All declarations of an input, up to the first record that is refused.
 pub fn declare_all(s: &[u8]) -> Declarations
     ensures { λ r. ⌜ r ≡ declarationsOf (now (s .entry)) ⌝ }
 {
-    let mut d = none_declared();
+    let mut links: u64 = 0;
+    let mut capacity = no_capacities();
+    let mut declared: u32 = 0;
+    let mut access = no_rates();
+    let mut maximum = no_rates();
+    let mut path = no_paths();
     let mut at: usize = 0;
     let mut n: usize = 0;
     while at < s.len() {
-        let links = d.links;
-        let declared = d.sessions;
         let x = next(links, declared, s, at);
         match x {
             Read::Record(y) => {
-                d = declare(d, s, y);
+                declare(&mut capacity, &mut access, &mut maximum, &mut path, s, y);
+                links = with_link(links, s, y);
+                declared = with_session(declared, s, y);
                 at = at + size_at(s, at);
                 n = n + 1;
             }
             Read::Refused(r) => {
                 return Declarations {
-                    declared: d,
+                    declared: Declared {
+                        links: links,
+                        capacity: capacity,
+                        sessions: declared,
+                        access: access,
+                        maximum: maximum,
+                        path: path,
+                    },
                     taken: n,
                     end: End::Refused {
                         refusal: r,
@@ -582,7 +640,14 @@ pub fn declare_all(s: &[u8]) -> Declarations
         }
     }
     Declarations {
-        declared: d,
+        declared: Declared {
+            links: links,
+            capacity: capacity,
+            sessions: declared,
+            access: access,
+            maximum: maximum,
+            path: path,
+        },
         taken: n,
         end: End::Finished,
     }

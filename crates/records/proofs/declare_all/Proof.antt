@@ -1,49 +1,66 @@
 -- `records::declare_all` meets its contract: what is left to read comes to what the whole input comes to.
 -- Assumes nothing.
 use borrow.Author.Needs.{needs}
-use mathlib.Core.Path.{_≡_, sym, ap, _∙_}
-use Prim.Native.Nat.{_+_, _-_, _≤_, _<_}
+use mathlib.Core.Path.{_≡_, sym, ap, subst, _∙_}
+use Prim.Native.Nat.{ℕ, _+_, _-_, _≤_, _<_}
 use denote.Ref.{now}
-use native.Mathlib.Omega.{arith}
-use native.Mathlib.Nat.{sub-zero}
 use lib.ListN.{length}
+use native.Mathlib.Omega.{arith}
+use mathlib.Core.List.{List}
+use native.Mathlib.Nat.{sub-zero}
 use Rattle.records.specs.Run.{Ran, runFrom, runOf}
 use Rattle.records.specs.Declaring.{declarationsOf, declareOf, judging, noneDeclared}
 use Rattle.records.specs.declared.Call.the-variants as call
 use Rattle.records.specs.declared.Declarations.{Declarations}
 use Rattle.records.specs.declared.Declared.{Declared}
 use Rattle.records.proofs.ReadRecords.{judged-record-ends, judged-record-ok}
-use Rattle.records.proofs.Runs.{run-end, run-refused, run-taken}
+use Rattle.records.proofs.Runs.{declared-by, run-end, run-refused, run-taken}
 use Rattle.records.proofs.declare_all.Statement.{statement}
 use Rattle.records.proofs.declare_all.Tie as tie
 
+-- the declarations in the locals
+abbrev state : ℕ → List ℕ → ℕ → List ℕ → List ℕ → List ℕ → Declared
+state links capacity declared access maximum path =
+    record { links = links; capacity = capacity; sessions = declared; access = access; maximum = maximum; path = path }
+
 abbrev Inv-loop : tie.InvT-loop
-Inv-loop s d₀ at₀ n₀ d at n =
+Inv-loop s links₀ capacity₀ declared₀ access₀ maximum₀ path₀ at₀ n₀ links capacity declared access maximum path at n =
     (n ≤ at) × (at ≤ length s)
-    × (runFrom call.Calculation (judging s) (declareOf s) s (length s - n) d n at ≡ runOf call.Calculation (judging s) (declareOf s) s noneDeclared)
+    × (runFrom call.Calculation (judging s) (declareOf s) s (length s - n) (state links capacity declared access maximum path) n at
+    ≡ runOf call.Calculation (judging s) (declareOf s) s noneDeclared)
 
 abbrev μ-loop : tie.MeasureT-loop
-μ-loop s d₀ at₀ n₀ d at n = length s - at
+μ-loop s links₀ capacity₀ declared₀ access₀ maximum₀ path₀ at₀ n₀ links capacity declared access maximum path at n = length s - at
 
 abbrev shown : Ran Declared → Declarations
 shown r = record { declared = r .state; taken = r .taken; end = r .end }
 
 -- the record ends within the input
 ends : (c : tie.After-size-at Inv-loop μ-loop)
-    → (0 < c .size-at .result) × (c .before .before .before .before .before .before .before .loop .at + c .size-at .result ≤ length (now (c .before .before .before .before .before .before .before .before .before .before .args .s)))
+    → (0 < c .size-at .result) × (c .before .before .before .before .before .before .before .before .before .before .before .before .before .loop .at + c .size-at .result ≤ length (now (c .before .before .before .before .before .before .before .before .before .before .before .before .before .before .before .before .before .before .before .args .s)))
 ends c =
-    let s = now (c .before .before .before .before .before .before .before .before .before .before .args .s) in
-    let l = c .before .before .before .before .before .before .before .loop in (
+    let s = now (c .before .before .before .before .before .before .before .before .before .before .before .before .before .before .before .before .before .before .before .args .s) in
+    let l = c .before .before .before .before .before .before .before .before .before .before .before .before .before .loop in (
       c .size-at .ensures .1,
       rw (c .size-at .ensures .0)
-          (judged-record-ends call.Calculation s (l .at) (judging s (l .d)) _ (sym (c .before .before .before .before .before .next .ensures) ∙ c .before .before .before .x .given .1)),
+          (judged-record-ends call.Calculation s (l .at) (judging s (state (l .links) (l .capacity) (l .declared) (l .access) (l .maximum) (l .path))) _ (sym (c .before .before .before .before .before .before .before .before .before .before .before .next .ensures) ∙ c .before .before .before .before .before .before .before .before .before .x .given .1)),
     )
 
-none-declared-requires : tie.Need-none-declared-requires Inv-loop μ-loop
-none-declared-requires c κs = tt
+no-capacities-requires : tie.Need-no-capacities-requires Inv-loop μ-loop
+no-capacities-requires c κs = tt
+
+no-rates-requires : tie.Need-no-rates-requires Inv-loop μ-loop
+no-rates-requires c κs = tt
+
+no-rates-requires-2 : tie.Need-no-rates-requires-2 Inv-loop μ-loop
+no-rates-requires-2 c κs = tt
+
+no-paths-requires : tie.Need-no-paths-requires Inv-loop μ-loop
+no-paths-requires c κs = tt
 
 loop-holds : tie.Need-loop-holds Inv-loop μ-loop
-loop-holds c = (omega arith, omega arith, rw (c .none-declared .ensures, sub-zero))
+unfolding noneDeclared
+loop-holds c = (omega arith, omega arith, rw (c .before .before .before .no-capacities .ensures, c .before .before .no-rates .ensures, c .before .no-rates2 .ensures, c .no-paths .ensures, sub-zero))
 
 next-requires : tie.Need-next-requires Inv-loop μ-loop
 next-requires c κs = omega arith
@@ -53,9 +70,21 @@ enum-known-x c = search needs
 
 declare-requires : tie.Need-declare-requires Inv-loop μ-loop
 declare-requires c κs =
-    let s = now (c .before .before .before .before .before .before .before .before .args .s) in
-    let l = c .before .before .before .before .before .loop in
-    judged-record-ok call.Calculation s (l .at) (judging s (l .d)) _ (sym (c .before .before .before .next .ensures) ∙ c .before .x .given .1) (λ i. omega (arith, c .before .before .before .before .before .before .before .shared-slice-known .given i))
+    let s = now (c .before .before .before .before .before .before .before .before .before .before .before .before .before .before .before .args .s) in
+    let l = c .before .before .before .before .before .before .before .before .before .loop in
+    judged-record-ok call.Calculation s (l .at) (judging s (state (l .links) (l .capacity) (l .declared) (l .access) (l .maximum) (l .path))) _ (sym (c .before .before .before .before .before .before .before .next .ensures) ∙ c .before .before .before .before .before .x .given .1) (λ i. omega (arith, c .before .before .before .before .before .before .before .before .before .before .before .before .before .before .shared-slice-known .given i))
+
+with-link-requires : tie.Need-with-link-requires Inv-loop μ-loop
+with-link-requires c κs =
+    let s = now (c .before .before .before .before .before .before .before .before .before .before .before .before .before .before .before .before .args .s) in
+    let l = c .before .before .before .before .before .before .before .before .before .before .loop in
+    judged-record-ok call.Calculation s (l .at) (judging s (state (l .links) (l .capacity) (l .declared) (l .access) (l .maximum) (l .path))) _ (sym (c .before .before .before .before .before .before .before .before .next .ensures) ∙ c .before .before .before .before .before .before .x .given .1) (λ i. omega (arith, c .before .before .before .before .before .before .before .before .before .before .before .before .before .before .before .shared-slice-known .given i))
+
+with-session-requires : tie.Need-with-session-requires Inv-loop μ-loop
+with-session-requires c κs =
+    let s = now (c .before .before .before .before .before .before .before .before .before .before .before .before .before .before .before .before .before .args .s) in
+    let l = c .before .before .before .before .before .before .before .before .before .before .before .loop in
+    judged-record-ok call.Calculation s (l .at) (judging s (state (l .links) (l .capacity) (l .declared) (l .access) (l .maximum) (l .path))) _ (sym (c .before .before .before .before .before .before .before .before .before .next .ensures) ∙ c .before .before .before .before .before .before .before .x .given .1) (λ i. omega (arith, c .before .before .before .before .before .before .before .before .before .before .before .before .before .before .before .before .shared-slice-known .given i))
 
 size-at-requires : tie.Need-size-at-requires Inv-loop μ-loop
 size-at-requires c κs = omega arith
@@ -71,13 +100,20 @@ loop-less c = omega (arith, ends c)
 
 loop-again : tie.Need-loop-again Inv-loop μ-loop
 loop-again c =
-    let s = now (c .before .before .before .before .before .before .before .before .before .before .args .s) in
-    let l = c .before .before .before .before .before .before .before .loop in (
+    let s = now (c .before .before .before .before .before .before .before .before .before .before .before .before .before .before .before .before .before .before .before .args .s) in
+    let l = c .before .before .before .before .before .before .before .before .before .before .before .before .before .loop in
+    let t = c .before .before .before .declare .ensures in
+    let e = sym (c .before .before .before .before .before .before .before .before .before .before .before .next .ensures) ∙ c .before .before .before .before .before .before .before .before .before .x .given .1 in
+    let q = declared-by s (state (l .links) (l .capacity) (l .declared) (l .access) (l .maximum) (l .path)) (c .before .before .before .before .before .before .before .before .before .x .given .0 .0) _ _ _ _ _ _ (c .before .before .with-link .ensures) (t .0) (c .before .with-session .ensures) (t .1) (t .2) (t .3) in (
       omega (arith, ends c),
       omega (arith, ends c),
-      rw (c .size-at .ensures .0, c .before .declare .ensures)
-          (sym (run-taken call.Calculation (judging s) (declareOf s) s (l .d) (l .n) (l .at) _ (l .inv .0) (c .before .before .before .before .before .before .loop-test .taken) (sym (c .before .before .before .before .before .next .ensures) ∙ c .before .before .before .x .given .1))
-          ∙ l .inv .2),
+      subst
+          (λ (d : Declared).
+          runFrom call.Calculation (judging s) (declareOf s) s (length s - (l .n + 1)) d (l .n + 1) (l .at + c .size-at .result)
+          ≡ runOf call.Calculation (judging s) (declareOf s) s noneDeclared)
+          (sym q)
+          (rw (c .size-at .ensures .0)
+          (sym (run-taken call.Calculation (judging s) (declareOf s) s (state (l .links) (l .capacity) (l .declared) (l .access) (l .maximum) (l .path)) (l .n) (l .at) _ (l .inv .0) (c .before .before .before .before .before .before .before .before .before .before .before .before .loop-test .taken) e) ∙ l .inv .2)),
     )
 
 enum-known-x-2 : tie.Need-enum-known-x-2 Inv-loop μ-loop
@@ -85,17 +121,16 @@ enum-known-x-2 c = search needs
 
 returns : tie.Need-returns Inv-loop μ-loop
 unfolding declarationsOf
-returns c = let s = now (c .before .before .before .before .before .before .before .before .args .s) in
+returns c = let s = now (c .before .before .before .before .before .before .before .before .before .before .before .args .s) in
     let l = c .before .before .before .before .before .loop in
     ap shown
-    (sym (run-refused call.Calculation (judging s) (declareOf s) s (l .d) (l .n) (l .at) _ (l .inv .0) (c .before .before .before .before .loop-test .taken) (sym (c .before .before .before .next .ensures) ∙ c .before .x2 .given .1))
-    ∙ l .inv .2)
+    (sym (run-refused call.Calculation (judging s) (declareOf s) s (state (l .links) (l .capacity) (l .declared) (l .access) (l .maximum) (l .path)) (l .n) (l .at) _ (l .inv .0) (c .before .before .before .before .loop-test .taken) (sym (c .before .before .before .next .ensures) ∙ c .before .x2 .given .1)) ∙ l .inv .2)
 
 returns-2 : tie.Need-returns-2 Inv-loop μ-loop
 unfolding declarationsOf
-returns-2 c = let s = now (c .before .before .before .before .args .s) in
+returns-2 c = let s = now (c .before .before .before .before .before .before .before .args .s) in
     let l = c .before .loop in
-    ap shown (sym (run-end call.Calculation (judging s) (declareOf s) s (length s - l .n) (l .d) (l .n) (l .at) (c .loop-test .left)) ∙ l .inv .2)
+    ap shown (sym (run-end call.Calculation (judging s) (declareOf s) s (length s - l .n) (state (l .links) (l .capacity) (l .declared) (l .access) (l .maximum) (l .path)) (l .n) (l .at) (c .loop-test .left)) ∙ l .inv .2)
 
 pub declare-all-spec : {M : Type 1} → statement M
 declare-all-spec =
@@ -103,11 +138,16 @@ declare-all-spec =
     (tie.spec
     Inv-loop
     μ-loop
-    none-declared-requires
+    no-capacities-requires
+    no-rates-requires
+    no-rates-requires-2
+    no-paths-requires
     loop-holds
     next-requires
     enum-known-x
     declare-requires
+    with-link-requires
+    with-session-requires
     size-at-requires
     add-at
     add-n

@@ -1,37 +1,58 @@
 -- `records::with_link` meets its contract.
 -- Assumes nothing.
 use borrow.Author.Needs.{needs}
-use mathlib.Core.Path.{ap}
+use mathlib.Core.Path.{subst}
 use Prim.Native.Nat.{_-_}
-use lib.ListN.{set}
-use Prim.Native.Nat.{ℕ}
-use Rattle.records.specs.Declaring.{withLink}
+use denote.Ref.{now}
+use Rattle.records.specs.Format.{RecordOk}
 use Rattle.records.proofs.with_link.Statement.{statement}
 use Rattle.records.proofs.with_link.Tie as tie
 
+enum-known-x : tie.Need-enum-known-x
+enum-known-x c = search needs
+
 put-link-requires : tie.Need-put-link-requires
-put-link-requires c κs = search needs
+put-link-requires c κs = let p = subst (RecordOk (now (c .before .before .before .before .args .s))) (c .before .x .given .1) (c .before .before .before .before .pre) in p .0
 
-mul-next : tie.Need-mul-next
-mul-next c = search needs
+enum-told : tie.Need-enum-told
+enum-told c = search needs
 
-element-write-next : tie.Need-element-write-next
-element-write-next c = search needs
+enum-told-2 : tie.Need-enum-told-2
+enum-told-2 c = search needs
+
+enum-told-3 : tie.Need-enum-told-3
+enum-told-3 c = search needs
+
+enum-told-4 : tie.Need-enum-told-4
+enum-told-4 c = search needs
 
 returns : tie.Need-returns
-unfolding withLink
-returns c = let a = c .before .args in
-    ap
-    (λ (w : ℕ).
-    record {
-      links = w;
-      capacity = set (a .d .capacity) (a .e) (a .capacity);
-      sessions = a .d .sessions;
-      access = a .d .access;
-      maximum = a .d .maximum;
-      path = a .d .path;
-    })
-    (c .put-link .ensures)
+returns c = rw (c .before .before .x .given .1) (c .put-link .ensures)
+
+returns-2 : tie.Need-returns-2
+returns-2 c = search needs
+
+returns-3 : tie.Need-returns-3
+returns-3 c = search needs
+
+returns-4 : tie.Need-returns-4
+returns-4 c = search needs
+
+returns-5 : tie.Need-returns-5
+returns-5 c = search needs
 
 pub with-link-spec : {M : Type 1} → statement M
-with-link-spec = tie.close (tie.spec put-link-requires mul-next element-write-next returns)
+with-link-spec =
+    tie.close
+    (tie.spec
+    enum-known-x
+    put-link-requires
+    enum-told
+    enum-told-2
+    enum-told-3
+    enum-told-4
+    returns
+    returns-2
+    returns-3
+    returns-4
+    returns-5)

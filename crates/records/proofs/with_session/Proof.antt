@@ -1,58 +1,58 @@
 -- `records::with_session` meets its contract.
 -- Assumes nothing.
 use borrow.Author.Needs.{needs}
-use mathlib.Core.Path.{ap, ap₂, _∙_}
-use Prim.Native.Nat.{ℕ}
-use lib.ListN.{set}
-use Rattle.records.specs.declared.Declared.{Declared}
-use Rattle.sessions.specs.Set.{put}
-use Rattle.records.specs.Declaring.{withPath, withSession}
+use mathlib.Core.Path.{subst}
+use Prim.Native.Nat.{_-_}
+use denote.Ref.{now}
+use Rattle.records.specs.Format.{RecordOk}
 use Rattle.records.proofs.with_session.Statement.{statement}
 use Rattle.records.proofs.with_session.Tie as tie
 
-with-path-requires : tie.Need-with-path-requires
-with-path-requires c κs = search needs
+enum-told : tie.Need-enum-told
+enum-told c = search needs
+
+enum-known-x : tie.Need-enum-known-x
+enum-known-x c = search needs
 
 put-requires : tie.Need-put-requires
-put-requires c κs = search needs
+put-requires c κs = let p = subst (RecordOk (now (c .before .before .before .before .args .s))) (c .before .x .given .1) (c .before .before .before .before .pre) in p .0
 
-mul-next : tie.Need-mul-next
-mul-next c = search needs
+enum-told-2 : tie.Need-enum-told-2
+enum-told-2 c = search needs
 
-element-write-next : tie.Need-element-write-next
-element-write-next c = search needs
+enum-told-3 : tie.Need-enum-told-3
+enum-told-3 c = search needs
 
-mul-next-2 : tie.Need-mul-next-2
-mul-next-2 c = search needs
-
-element-write-next-2 : tie.Need-element-write-next-2
-element-write-next-2 c = search needs
+enum-told-4 : tie.Need-enum-told-4
+enum-told-4 c = search needs
 
 returns : tie.Need-returns
-unfolding withSession withPath
-returns c =
-    let a = c .before .before .before .args in
-    ap₂
-    (λ (d : Declared) (w : ℕ).
-    record {
-      links = d .links;
-      capacity = d .capacity;
-      sessions = w;
-      access = set (d .access) (a .t) (a .access);
-      maximum = set (d .maximum) (a .t) (a .maximum);
-      path = d .path;
-    })
-    (c .before .with-path .ensures)
-    (c .put .ensures ∙ ap (λ (d : Declared). put (a .t) (d .sessions)) (c .before .with-path .ensures))
+returns c = search needs
+
+returns-2 : tie.Need-returns-2
+returns-2 c = rw (c .before .before .x .given .1) (c .put .ensures)
+
+returns-3 : tie.Need-returns-3
+returns-3 c = search needs
+
+returns-4 : tie.Need-returns-4
+returns-4 c = search needs
+
+returns-5 : tie.Need-returns-5
+returns-5 c = search needs
 
 pub with-session-spec : {M : Type 1} → statement M
 with-session-spec =
     tie.close
     (tie.spec
-    with-path-requires
+    enum-told
+    enum-known-x
     put-requires
-    mul-next
-    element-write-next
-    mul-next-2
-    element-write-next-2
-    returns)
+    enum-told-2
+    enum-told-3
+    enum-told-4
+    returns
+    returns-2
+    returns-3
+    returns-4
+    returns-5)
