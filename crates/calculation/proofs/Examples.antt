@@ -13,20 +13,19 @@ use Rattle.fairness.specs.Sum.{sum}
 use Rattle.records.specs.Declaring.{copied, declarationsOf, declareOf, judgeOf, noneDeclared, ownLimitOf, pathDeclared}
 use Rattle.records.specs.Format.{all, be2, be4, bodyAt, bodyOf, changeAt, deliverAt, differ, isNew, leaveAt, linkAt, linksOk, pathOk, readAt, restOk, sessionAt, sizeAt}
 use Rattle.records.specs.Run.{runFrom}
-use Rattle.records.specs.declared.Refusal.the-variants as refusal
 use Rattle.filling.specs.Lines.{problemOf}
 use Rattle.calculation.specs.Binding.{bindingOf, firstOf, own}
-use Rattle.calculation.specs.Calculating.{Outcome, calculateOf, doneOf, resultsOf, written}
-use Rattle.calculation.specs.declared.Calculated.{Calculated}
-use Rattle.calculation.specs.declared.Calculated.the-variants as calculated
+use Rattle.calculation.specs.Calculating.{Outcome, Said, saidOf, calculateOf, doneOf, resultsOf, written}
 
--- a link record; a session record with an access rate, a maximum and a path over link 0
+-- a link record
 abbrev link : ℕ → ℕ → List ℕ
 link e capacity = 1 ∷ e ∷ 0 ∷ 0 ∷ 0 ∷ capacity ∷ []
 
+-- a session record: access rate, maximum, and the path with its length first
 abbrev session : ℕ → ℕ → ℕ → List ℕ → List ℕ
 session t access maximum path = 2 ∷ t ∷ 0 ∷ 0 ∷ 0 ∷ access ∷ 0 ∷ 0 ∷ 0 ∷ maximum ∷ path
 
+-- a path of one link, link 0
 abbrev over0 : List ℕ
 over0 = 1 ∷ 0 ∷ replicate 7 255
 
@@ -43,18 +42,39 @@ nines = replicate 32 9
 abbrev shown : List ℕ → ℕ → List ℕ
 shown l n = l ++ replicate n 9
 
+-- what an outcome says, in 01's numbers, and the three slices
+record Shown : Type 0 where
+  said : Said
+  nums : List ℕ
+  dens : List ℕ
+  places : List ℕ
+
+abbrev showing : Outcome → Shown
+showing o = record { said = saidOf (o .answer); nums = o .nums; dens = o .dens; places = o .places }
+
 record Example : Type 0 where
   input : List ℕ
-  outcome : Outcome
+  outcome : Shown
 
-abbrev turnedAway : List ℕ → Calculated → Example
-turnedAway s r = record { input = s; outcome = record { answer = r; nums = nines; dens = nines; places = nines } }
+-- refused with this number at this place: nothing is written
+abbrev refused : List ℕ → ℕ → ℕ → Example
+refused s number place =
+    record {
+      input = s;
+      outcome = record { said = record { number = number; place = place; links = 0; sessions = 0 }; nums = nines; dens = nines; places = nines };
+    }
 
 abbrev accepted : List ℕ → ℕ → ℕ → List ℕ → List ℕ → List ℕ → ℕ → Example
 accepted s links declared nums dens places others =
     record {
       input = s;
-      outcome = record { answer = calculated.Done links declared; nums = shown nums others; dens = shown dens others; places = shown places others };
+      outcome =
+          record {
+            said = record { number = 0; place = 0; links = links; sessions = declared };
+            nums = shown nums others;
+            dens = shown dens others;
+            places = shown places others;
+          };
     }
 
 examples : List Example
@@ -85,21 +105,21 @@ examples =
     -- P9: link of 1, 32 sessions: 1/32 each
     ∷ accepted (link 0 1 ++ sessions 32 0) 1 4294967295 (replicate 32 1) (replicate 32 32) (replicate 32 0) 0
     -- P10: path length 0: 6
-    ∷ turnedAway (link 0 10 ++ session 0 100 0 (0 ∷ replicate 8 255)) (calculated.Refused refusal.BadPath 6)
+    ∷ refused (link 0 10 ++ session 0 100 0 (0 ∷ replicate 8 255)) 6 6
     -- P11: 9: 6
-    ∷ turnedAway (link 0 10 ++ session 0 100 0 (9 ∷ 0 ∷ replicate 7 255)) (calculated.Refused refusal.BadPath 6)
+    ∷ refused (link 0 10 ++ session 0 100 0 (9 ∷ 0 ∷ replicate 7 255)) 6 6
     -- P12: capacity 1,000,000 accepted, 1,000,001: 5
     ∷ accepted (1 ∷ 0 ∷ 0 ∷ 15 ∷ 66 ∷ 64 ∷ []) 1 0 [] [] [] 32
-    ∷ turnedAway (1 ∷ 0 ∷ 0 ∷ 15 ∷ 66 ∷ 65 ∷ []) (calculated.Refused refusal.RateOutOfRange 0)
+    ∷ refused (1 ∷ 0 ∷ 0 ∷ 15 ∷ 66 ∷ 65 ∷ []) 5 0
     -- P13: link 0 declared twice: 7
-    ∷ turnedAway (link 0 10 ++ link 0 10) (calculated.Refused refusal.AlreadyThere 6)
+    ∷ refused (link 0 10 ++ link 0 10) 7 6
     ∷ []
 
-each : (Example → Outcome) → List Example → List Outcome
+each : (Example → Shown) → List Example → List Shown
 each f [] = []
 each f (x ∷ xs) = f x ∷ each f xs
 
 -- every example has the outcome that 01 gives
-examples-right : each (λ x. calculateOf (x .input) nines nines nines) examples ≡ each (λ x. x .outcome) examples
+examples-right : each (λ x. showing (calculateOf (x .input) nines nines nines)) examples ≡ each (λ x. x .outcome) examples
 unfolding examples each calculateOf doneOf resultsOf written declarationsOf declareOf judgeOf noneDeclared pathDeclared copied ownLimitOf all be2 be4 bodyAt bodyOf changeAt deliverAt differ isNew leaveAt linkAt linksOk pathOk readAt restOk sessionAt sizeAt runFrom problemOf bindingOf firstOf used sum figure1 begin net rounds oneRound roundOn fixAt lefts counts smallest smaller chosen any values openAll openAt leftAt loadAt lowestOf gcdOf gcdIn membersFrom walk has put cut
 examples-right = refl

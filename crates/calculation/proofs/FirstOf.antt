@@ -2,7 +2,7 @@
 -- Assumes nothing.
 use mathlib.Core.Bool.{Bool, _&&_, cond, false, true}
 use mathlib.Core.List.{List, [], _∷_}
-use mathlib.Core.Path.{_≡_, refl, sym}
+use mathlib.Core.Path.{_≡_, refl}
 use Prim.Native.Nat.{ℕ, suc, _+_, _-_, _<_}
 use native.Mathlib.Numerals.{add-one}
 use native.Mathlib.Omega.{arith}
@@ -10,6 +10,7 @@ use borrow.Author.Tests.{eq-eqb, eqb-true, ltb-true}
 use lib.Dec.{eqb, ltb}
 use lib.ListN.{getD}
 use Rattle.fairness.specs.Figure1.{values}
+use Rattle.fractions.proofs.Cases.{same-test}
 use Rattle.calculation.specs.Binding.{firstOf}
 
 -- the values that are left after h of eight, taken apart
@@ -40,11 +41,6 @@ pub first-cong : (f g : ℕ → Bool) (l : List ℕ) → ((e : ℕ) → f e ≡ 
 unfolding firstOf
 first-cong f g [] h = refl
 first-cong f g (e ∷ l) h = rw (h e, first-cong f g l h)
-
-same-test : (s t : Bool) → (s ≡ true → t ≡ true) → (t ≡ true → s ≡ true) → s ≡ t
-same-test true t f g = sym (f refl)
-same-test false true f g = g refl
-same-test false false f g = refl
 
 -- two tests of equality that hold together
 pub eqb-same : (a b c d : ℕ) → (a ≡ b → c ≡ d) → (c ≡ d → a ≡ b) → eqb a b ≡ eqb c d

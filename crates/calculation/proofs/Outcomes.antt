@@ -1,8 +1,8 @@
 -- What the definition of `calculate` gives: its cases in the order of their tests, and that an accepted input gets what was ordered, and only that.
 -- Assumes nothing.
-use mathlib.Core.Bool.{Bool, _||_, cond, false, true}
+use mathlib.Core.Bool.{_||_}
 use mathlib.Core.List.{List}
-use mathlib.Core.Path.{_≡_, refl, ap, ap₂, subst, sym, _∙_}
+use mathlib.Core.Path.{_≡_, ap, ap₂, subst, sym, _∙_}
 use Prim.Native.Nat.{ℕ, _≤_, _<_}
 use native.Mathlib.Omega.{arith}
 use borrow.Author.Tests.{le-ltb, lt-ltb, ltb-false}
@@ -10,6 +10,7 @@ use lib.Dec.{eqb→eq, ltb}
 use lib.ListN.{getD, length}
 use Rattle.fractions.specs.Fraction.{frac}
 use Rattle.fractions.specs.declared.Rate.{Rate}
+use Rattle.fractions.proofs.Cases.{cases, or-false}
 use Rattle.sessions.specs.Set.{has}
 use Rattle.fairness.specs.Answer.{Answer, figure1Rate}
 use Rattle.fairness.specs.MaxMin.{Active}
@@ -80,14 +81,6 @@ done-answer d nums dens places a b =
 -- what an outcome must be
 abbrev Right : List ℕ → Outcome → Type 0
 Right s o = Ordered s (o .answer) (o .nums) (o .dens)
-
-cases : {A : Type 0} (P : A → Type 0) (t : Bool) (x y : A) → (t ≡ true → P x) → (t ≡ false → P y) → P (cond t x y)
-cases P true x y f g = f refl
-cases P false x y f g = g refl
-
-or-false : (a b : Bool) → (a || b) ≡ false → (a ≡ false) × (b ≡ false)
-or-false true b e = absurd (let z : _≡_ {A = ℕ} 0 1 = cc in omega arith)
-or-false false b e = (refl, e)
 
 after-right : (s nums dens places : List ℕ) → 32 ≤ length nums → 32 ≤ length dens → (e : End) → Right s (afterRecords e (declarationsOf s .declared) nums dens places)
 unfolding doneOf

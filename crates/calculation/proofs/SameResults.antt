@@ -15,12 +15,12 @@ use Rattle.fairness.proofs.Answers.{answer-unique, figure1-answer}
 use Rattle.fairness.proofs.Figure1IsFair.{figure1-fair}
 use Rattle.fairness.proofs.Running.{values-at}
 use Rattle.fairness.proofs.SameRates.{full-same, own-same}
-use Rattle.fairness.proofs.Tests.{eqb-T}
+use Rattle.fractions.proofs.Cases.{eqb-T}
 use Rattle.fairness.proofs.Uniqueness.{max-min-unique}
 use Rattle.records.specs.declared.Declared.{Declared}
 use Rattle.filling.specs.Lines.{Filled, problemOf}
 use Rattle.filling.specs.declared.Fixed.{Fixed}
-use Rattle.calculation.specs.Binding.{bindingOf, firstOf, fullyUsed, pathOf}
+use Rattle.calculation.specs.Binding.{bindingOf, firstOf, fullyUsed, pathBytes}
 use Rattle.calculation.specs.Calculating.{resultsOf}
 use Rattle.calculation.specs.Results.{Found}
 use Rattle.calculation.specs.declared.Results.{Results}
@@ -41,8 +41,8 @@ module _ (d : Declared) (N : ℕ) (x : ℕ → ℕ) (M : ℕ) (y : ℕ → ℕ) 
       let back = max-min-unique p M y N x g f in
       let own : eqb (x t) (N * p .D t) ≡ eqb (y t) (M * p .D t) =
       eqb-same (x t) (N * p .D t) (y t) (M * p .D t) (own-same p N x M y (f .feasible .pos) there t h) (own-same p M y N x (g .feasible .pos) back t h) in
-      let full : firstOf (fullyUsed p N x) (pathOf (d .path) t) ≡ firstOf (fullyUsed p M y) (pathOf (d .path) t) =
-      first-cong (fullyUsed p N x) (fullyUsed p M y) (pathOf (d .path) t)
+      let full : firstOf (fullyUsed p N x) (pathBytes (d .path) t) ≡ firstOf (fullyUsed p M y) (pathBytes (d .path) t) =
+      first-cong (fullyUsed p N x) (fullyUsed p M y) (pathBytes (d .path) t)
       (λ e. eqb-below e _ _ _ _ (λ l. full-same p N x M y (f .feasible .pos) there e) (λ l. full-same p M y N x (g .feasible .pos) back e)) in
       rw (own, full)
 

@@ -9,7 +9,7 @@ use lib.ListN.{getD, length, length-set, set}
 use lib.Seq.{getD-set-other, getD-set-same}
 use Rattle.sessions.specs.Set.{cut, has}
 use Rattle.sessions.proofs.Members.{has-cut-other, has-zero}
-use Rattle.fairness.proofs.Tests.{order}
+use Rattle.fractions.proofs.Cases.{order}
 
 pub record Upto (f : ℕ → ℕ) (w left : ℕ) (l : List ℕ) : Type 0 where
   pub long : length l ≡ 32

@@ -20,8 +20,8 @@ firstOf test [] = 255
 firstOf test (e ∷ l) = cond (test e) e (firstOf test l)
 
 -- the eight bytes of the path of session t, in path order
-abbrev pub pathOf : List ℕ → ℕ → List ℕ
-pathOf path t = values 0 8 (λ h. getD path (t * 8 + h) 0)
+abbrev pub pathBytes : List ℕ → ℕ → List ℕ
+pathBytes path t = values 0 8 (λ h. getD path (t * 8 + h) 0)
 
 -- e is a link whose capacity is fully used
 abbrev pub fullyUsed : Problem → ℕ → (ℕ → ℕ) → ℕ → Bool
@@ -30,4 +30,4 @@ fullyUsed p N x e = ltb e 64 && eqb (used p x e) (N * p .capacity e)
 -- "own" if the rate equals D, else the first link on its path, in path order, whose capacity is fully used
 unfoldable pub bindingOf : Declared → ℕ → (ℕ → ℕ) → ℕ → ℕ
 bindingOf d N x t =
-    cond (eqb (x t) (N * problemOf d .D t)) own (firstOf (fullyUsed (problemOf d) N x) (pathOf (d .path) t))
+    cond (eqb (x t) (N * problemOf d .D t)) own (firstOf (fullyUsed (problemOf d) N x) (pathBytes (d .path) t))

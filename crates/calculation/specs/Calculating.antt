@@ -12,6 +12,7 @@ use Rattle.fairness.specs.Answer.{Answer}
 use Rattle.fairness.specs.Figure1.{figure1, rate, values}
 use Rattle.records.specs.Declaring.{declarationsOf}
 use Rattle.records.specs.Limits.{inputLimit}
+use Rattle.records.specs.Refusals.{numberOf}
 use Rattle.records.specs.declared.Declared.{Declared}
 use Rattle.records.specs.declared.End.{End}
 use Rattle.records.specs.declared.End.the-variants as end
@@ -70,7 +71,18 @@ calculateOf s nums dens places =
     (cond (ltb inputLimit (length s)) (refusing (calculated.Refused refusal.TooLong 0) nums dens places)
     (afterRecords (declarationsOf s .end) (declarationsOf s .declared) nums dens places))
 
+-- 01's number and values of an answer: 0 with the declared links and sessions, or the number of the refusal with its place
+pub record Said : Type 0 where
+  pub number : ℕ
+  pub place : ℕ
+  pub links : ℕ
+  pub sessions : ℕ
+
+abbrev pub saidOf : Calculated → Said
+saidOf (calculated.Done links sessions) = record { number = 0; place = 0; links = links; sessions = sessions }
+saidOf (calculated.Refused r place) = record { number = numberOf r; place = place; links = 0; sessions = 0 }
+
 -- what was ordered of an accepted input: in the slices stand, for the declared sessions, the rates in lowest terms that are max-min fair
 abbrev pub Ordered : List ℕ → Calculated → List ℕ → List ℕ → Type 0
 Ordered s (calculated.Done links sessions) nums dens = Answer (problemOf (declarationsOf s .declared)) (λ t. frac (getD nums t 0) (getD dens t 0))
-Ordered s (calculated.Refused r place) nums dens = 0 ≤ 0
+Ordered s (calculated.Refused r place) nums dens = 0 ≤ 0  -- of a refusal the definition of the outcome says all

@@ -7,13 +7,19 @@ ghost use lib.ListN.{getD, length};
 ghost use Rattle.fairness.specs.Figure1.{values};
 ghost use Rattle.filling.specs.Lines.{Filled, Ranges};
 ghost use Rattle.calculation.specs.Binding.{bindingOf, firstOf};
-ghost use Rattle.calculation.specs.Calculating.{Ordered, calculateOf, doneOf, written};
+ghost use Rattle.calculation.specs.Calculating.{Ordered, calculateOf, doneOf, saidOf, written};
 ghost use Rattle.calculation.specs.Results.{Found};
 use filling::Fixed;
 use fractions::Rate;
 use records::Declared;
 use records::End;
 use records::Refusal;
+
+// What stands in the answer for a session whose binding place is its own limit.
+pub const OWN: u64 = 64;
+
+// The lent answer slices have a place for each session number.
+pub const PLACES: usize = 32;
 
 // Which links and sessions are declared, or what was refused and the place of its record's kind byte.
 pub enum Calculated {
@@ -69,7 +75,7 @@ fn binding(d: Declared, z: Fixed, t: u32) -> u64
     let den = z.den;
     let most = den * limit;
     if z.rate[i] == most {
-        return 64;
+        return OWN;
     }
     first_full(&d.path, &z.room, i * 8)
 }
@@ -145,21 +151,22 @@ pub fn calculate(s: &[u8], nums: &mut [u64], dens: &mut [u64], places: &mut [u64
         × (now (nums .exit) ≡ calculateOf (now (s .entry)) (now (nums .entry)) (now (dens .entry)) (now (places .entry)) .nums)
         × (now (dens .exit) ≡ calculateOf (now (s .entry)) (now (nums .entry)) (now (dens .entry)) (now (places .entry)) .dens)
         × (now (places .exit) ≡ calculateOf (now (s .entry)) (now (nums .entry)) (now (dens .entry)) (now (places .entry)) .places) ⌝ }
+    ensures said { λ r. ⌜ saidOf r ≡ saidOf (calculateOf (now (s .entry)) (now (nums .entry)) (now (dens .entry)) (now (places .entry)) .answer) ⌝ }
     ensures ordered { λ r. ⌜ Ordered (now (s .entry)) r (now (nums .exit)) (now (dens .exit)) ⌝ }
 {
-    if nums.len() < 32 {
+    if nums.len() < PLACES {
         return Calculated::Refused {
             refusal: Refusal::ShortSlice,
             place: 0,
         };
     }
-    if dens.len() < 32 {
+    if dens.len() < PLACES {
         return Calculated::Refused {
             refusal: Refusal::ShortSlice,
             place: 0,
         };
     }
-    if places.len() < 32 {
+    if places.len() < PLACES {
         return Calculated::Refused {
             refusal: Refusal::ShortSlice,
             place: 0,

@@ -8,7 +8,7 @@ use native.Mathlib.Numerals.{add-one}
 use native.Mathlib.Omega.{arith}
 use lib.Dec.{T}
 use Rattle.fairness.specs.Figure1.{any}
-use Rattle.fairness.proofs.Tests.{last, or-cases, or-left, or-right}
+use Rattle.fractions.proofs.Cases.{last, or-cases, or-left, or-right}
 
 pub any-next : (n : ℕ) (f : ℕ → Bool) → any (n + 1) f ≡ (f n || any n f)
 unfolding any

@@ -10,7 +10,7 @@ use lib.Dec.{ltb}
 use borrow.Author.Tests.{le-ltb, lt-ltb}
 use Rattle.fractions.specs.Fraction.{Same, frac}
 use Rattle.fractions.specs.declared.Rate.{Rate}
-use Rattle.fairness.proofs.Tests.{last}
+use Rattle.fractions.proofs.Cases.{last}
 use Rattle.fairness.proofs.Uniqueness.{Common}
 
 -- positive numbers have a common multiple

@@ -11,7 +11,8 @@ use Rattle.fairness.specs.MaxMin.{Active, Feasible, MaxMinFair, Problem,
 use Rattle.fairness.specs.Sum.{part}
 use Rattle.fairness.proofs.NetOfProblem.{fair-of-net, feasible-net, link-bottleneck, own-bottleneck}
 use Rattle.fairness.proofs.Nets.{NetBottleneck, net-criterion}
-use Rattle.fairness.proofs.Tests.{part-is, split}
+use Rattle.fractions.proofs.Cases.{split}
+use Rattle.fairness.proofs.Parts.{part-is}
 
 pub bottleneck-criterion : (p : Problem) (N : ℕ) (x : ℕ → ℕ) → Feasible p N x → ((s : ℕ) → Active p s → Restricted p N x s) → MaxMinFair p N x
 unfolding net

@@ -11,7 +11,7 @@ use Rattle.fairness.specs.Sum.{sum}
 use Rattle.fairness.proofs.Products.{largest, largest-32, largest-mul, largest-up}
 use Rattle.fairness.proofs.Rounds.{Filling, Round, falls, open-le}
 use Rattle.fairness.proofs.Sums.{sum-le}
-use Rattle.fairness.proofs.Tests.{part-le}
+use Rattle.fairness.proofs.Parts.{part-le}
 
 -- the weight of all sessions
 unfoldable pub allWeight : Net → ℕ

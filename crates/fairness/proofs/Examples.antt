@@ -66,9 +66,9 @@ every : (Example → List Rate) → List Example → List (List Rate)
 every f [] = []
 every f (x ∷ xs) = f x ∷ every f xs
 
-examples-right : every given examples ≡ every (λ x. x .rates) examples
+figure1-examples : every given examples ≡ every (λ x. x .rates) examples
 unfolding examples given every figure1 begin net rounds oneRound roundOn fixAt lefts counts smallest smaller chosen any values openAll openAt leftAt loadAt sum lowestOf gcdOf gcdIn
-examples-right = refl
+figure1-examples = refl
 
 -- P7 meets (c) and (d), with session 1 in R: rates 2 and 8 over 1
 alone : ℕ → Bool

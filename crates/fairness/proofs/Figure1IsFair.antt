@@ -15,7 +15,7 @@ use Rattle.fairness.proofs.Products.{one-largest}
 use Rattle.fairness.proofs.Rounds.{Filling}
 use Rattle.fairness.proofs.Running.{Crosses, StateFilling, all-fixed, filled, values-at}
 use Rattle.fairness.proofs.Sums.{sum-few, sum-none}
-use Rattle.fairness.proofs.Tests.{part-is, part-le, part-zero}
+use Rattle.fairness.proofs.Parts.{part-is, part-le, part-zero}
 
 -- WHERE THE ROUNDS BEGIN ----------------------------------------------------------------------------------------------
 

@@ -1,5 +1,5 @@
 -- Theorems of fairness. A crate above cites them as Rattle.fairness.proofs.NAME.
-pub mod Tests
+pub mod Parts
 pub mod Anys
 pub mod Sums
 pub mod Nets

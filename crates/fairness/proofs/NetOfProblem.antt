@@ -13,7 +13,8 @@ use Rattle.fairness.specs.MaxMin.{Active, Bottleneck, Feasible, Lowered,
 use Rattle.fairness.specs.Sum.{part}
 use Rattle.fairness.proofs.Nets.{NetBottleneck, NetFair, NetFeasible, Takes}
 use Rattle.fairness.proofs.Sums.{sum-eq, sum-one}
-use Rattle.fairness.proofs.Tests.{and-join, and-split, order, part-is, split}
+use Rattle.fractions.proofs.Cases.{and-join, and-split, order, split}
+use Rattle.fairness.proofs.Parts.{part-is}
 
 pub load-link : (p : Problem) (x : ℕ → ℕ) (e : ℕ) → e < p .links → loadAt (net p) x e ≡ used p x e
 unfolding loadAt net used

@@ -11,7 +11,7 @@ use lib.Dec.{T}
 use Rattle.fairness.specs.Figure1.{Net, loadAt}
 use Rattle.fairness.specs.Sum.{part, sum}
 use Rattle.fairness.proofs.Sums.{below-or, sum-eq, sum-scale}
-use Rattle.fairness.proofs.Tests.{part-is}
+use Rattle.fairness.proofs.Parts.{part-is}
 
 pub record NetFeasible (w : Net) (N : ℕ) (x : ℕ → ℕ) : Type 0 where
   pub pos : 0 < N

@@ -9,7 +9,7 @@ use native.Mathlib.Nat.{mul-le-mul-right}
 use native.Mathlib.Omega.{arith}
 use lib.Dec.{T, leb, leb→le}
 use lib.ListN.{getD}
-use Rattle.fairness.proofs.Tests.{and-split, last}
+use Rattle.fractions.proofs.Cases.{and-split, last}
 
 -- no product of whole numbers whose sum is at most the place, 0 to 32, is larger
 abbrev products : List ℕ

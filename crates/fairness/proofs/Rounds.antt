@@ -12,7 +12,8 @@ use Rattle.fairness.specs.Figure1.{Net, leftAt, loadAt, openAll, openAt}
 use Rattle.fairness.specs.Sum.{part, sum}
 use Rattle.fairness.proofs.Nets.{NetBottleneck}
 use Rattle.fairness.proofs.Sums.{sum-add, sum-at, sum-eq, sum-le, sum-scale}
-use Rattle.fairness.proofs.Tests.{part-both, part-le, split}
+use Rattle.fractions.proofs.Cases.{split}
+use Rattle.fairness.proofs.Parts.{part-both, part-le}
 
 -- what holds after each round (d: fixed): who is not fixed has nothing yet, no link carries more than its capacity, a rate that is fixed is at most every open
 -- share, and who is fixed has a bottleneck where nobody is left to fix

@@ -15,7 +15,8 @@ use Rattle.fairness.proofs.Anys.{any-at, any-found}
 use Rattle.fairness.proofs.Denominators.{SmallDenominator, allWeight, small-step}
 use Rattle.fairness.proofs.Rounds.{Filling, Round, falls, step}
 use Rattle.fairness.proofs.Sums.{sum-at, sum-none}
-use Rattle.fairness.proofs.Tests.{and-join, and-split, cond-hit, cond-miss, eqb-T, extend, or-hit, or-miss, order, part-is, pos-right}
+use Rattle.fractions.proofs.Cases.{and-join, and-split, cond-hit, cond-miss, eqb-T, extend, or-hit, or-miss, order, pos-right}
+use Rattle.fairness.proofs.Parts.{part-is}
 
 values-from : {A : Type 0} (n i j : ℕ) (f : ℕ → A) (z : A) → j < n → getD (values i n f) j z ≡ f (i + j)
 unfolding values

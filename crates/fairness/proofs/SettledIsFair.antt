@@ -13,7 +13,8 @@ use Rattle.fairness.specs.Settled.{SettledLink, SettledRates, sizeR, sum
 use Rattle.fairness.specs.Sum.{part}
 use Rattle.fairness.proofs.Criterion.{bottleneck-criterion}
 use Rattle.fairness.proofs.Sums.{sum-add, sum-at, sum-eq, sum-find, sum-scale}
-use Rattle.fairness.proofs.Tests.{and-join, and-split, order, part-both, split}
+use Rattle.fractions.proofs.Cases.{and-join, and-split, order, split}
+use Rattle.fairness.proofs.Parts.{part-both}
 
 two-parts : (a : Bool) (r : Bool) (v : ℕ) → part a v ≡ part a (part r v) + part a (part (not r) v)
 two-parts true true v = omega arith

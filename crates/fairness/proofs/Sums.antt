@@ -8,7 +8,8 @@ use native.Mathlib.Numerals.{add-one}
 use native.Mathlib.Omega.{arith}
 use lib.Dec.{T}
 use Rattle.fairness.specs.Sum.{part, sum}
-use Rattle.fairness.proofs.Tests.{last, not-part, order, part-is}
+use Rattle.fractions.proofs.Cases.{last, order}
+use Rattle.fairness.proofs.Parts.{not-part, part-is}
 
 pub sum-le : (n : ℕ) (f g : ℕ → ℕ) → ((s : ℕ) → s < n → f s ≤ g s) → sum n f ≤ sum n g
 unfolding sum

@@ -8,7 +8,7 @@ use native.Mathlib.Nat.{eq-of-mul-eq-mul-right, le-of-mul-le-mul-right, lt-of-mu
 use native.Mathlib.Omega.{arith}
 use Rattle.fairness.specs.MaxMin.{Active, Lowered, MaxMinFair, Problem}
 use Rattle.fairness.proofs.Nets.{Takes}
-use Rattle.fairness.proofs.Tests.{order, pos-left}
+use Rattle.fractions.proofs.Cases.{order, pos-left}
 
 -- over any set S of sessions: below k they agree, so at k nobody gains
 climb : (S : ℕ → Type 0) (N : ℕ) (x : ℕ → ℕ) (M : ℕ) (y : ℕ → ℕ) → ((s : ℕ) → S s → x s * M < y s * N → Takes S (λ s. 1) N x M y s)

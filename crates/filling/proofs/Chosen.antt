@@ -20,7 +20,7 @@ use Rattle.sessions.proofs.Operations.{has-or, has-two-other, has-two-same}
 use Rattle.fairness.specs.Figure1.{Net, net}
 use Rattle.fairness.proofs.Anys.{any-at, any-found}
 use Rattle.fairness.proofs.NetOfProblem.{on-link}
-use Rattle.fairness.proofs.Tests.{and-join, and-split, order}
+use Rattle.fractions.proofs.Cases.{and-join, and-split, order}
 use Rattle.records.specs.declared.Declared.{Declared}
 use Rattle.search.specs.Crossing.{AllAt, Meets}
 use Rattle.filling.specs.Lines.{crossesOf, problemOf}

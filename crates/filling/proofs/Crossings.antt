@@ -16,7 +16,7 @@ use Rattle.sessions.proofs.Members.{put-put}
 use Rattle.fairness.specs.Figure1.{any}
 use Rattle.fairness.specs.Sum.{part}
 use Rattle.fairness.proofs.Anys.{any-next}
-use Rattle.fairness.proofs.Tests.{part-zero}
+use Rattle.fairness.proofs.Parts.{part-zero}
 use Rattle.filling.specs.Crossings.{Crossing, WithPath}
 use Rattle.filling.specs.Lines.{crossesOf}
 use Rattle.filling.specs.SmallestShare.{Busy}

@@ -12,7 +12,7 @@ use lib.ListN.{getD, length, set}
 use lib.Seq.{getD-set-other, getD-set-same}
 use Rattle.sessions.specs.Set.{has}
 use Rattle.sessions.proofs.Members.{has-cut-other}
-use Rattle.fairness.proofs.Tests.{order}
+use Rattle.fractions.proofs.Cases.{order}
 use Rattle.filling.specs.OneRound.{busyAfter, linkAfter, rateAfter}
 use Rattle.filling.specs.SmallestShare.{Busy}
 use Rattle.filling.specs.declared.Given.{Given}

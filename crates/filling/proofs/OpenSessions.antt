@@ -23,7 +23,8 @@ use Rattle.fairness.proofs.Denominators.{allWeight}
 use Rattle.fairness.proofs.Figure1IsFair.{weight-32}
 use Rattle.fairness.proofs.NetOfProblem.{cap-link, cap-own, load-own, on-own, open-own}
 use Rattle.fairness.proofs.Sums.{sum-eq, sum-first}
-use Rattle.fairness.proofs.Tests.{order, part-is, split}
+use Rattle.fractions.proofs.Cases.{order, split}
+use Rattle.fairness.proofs.Parts.{part-is}
 use Rattle.records.specs.declared.Declared.{Declared}
 use Rattle.filling.specs.Lines.{problemOf}
 use Rattle.filling.specs.OneRound.{Running, fixedIn}

@@ -24,7 +24,8 @@ use Rattle.fairness.specs.Sum.{part}
 use Rattle.fairness.proofs.Denominators.{small-32}
 use Rattle.fairness.proofs.NetOfProblem.{cap-own, load-own}
 use Rattle.fairness.proofs.Rounds.{Round}
-use Rattle.fairness.proofs.Tests.{order, part-le}
+use Rattle.fractions.proofs.Cases.{order}
+use Rattle.fairness.proofs.Parts.{part-le}
 use Rattle.records.proofs.OwnLimit.{own-limit-le}
 use Rattle.records.specs.declared.Declared.{Declared}
 use Rattle.filling.specs.Lines.{problemOf}

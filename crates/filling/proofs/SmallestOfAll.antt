@@ -10,7 +10,7 @@ use lib.ListN.{getD}
 use Rattle.sessions.specs.Set.{cut, has}
 use Rattle.sessions.proofs.Members.{has-cut-other, has-zero}
 use Rattle.sessions.proofs.Operations.{has-two-other, has-two-same}
-use Rattle.fairness.proofs.Tests.{order}
+use Rattle.fractions.proofs.Cases.{order}
 use Rattle.filling.specs.SmallestShare.{Busy, SmallestAmong, below, bitOf, roomOf, smallerOf, wordOf}
 use Rattle.filling.specs.declared.Links.{Links}
 use Rattle.filling.specs.declared.Smallest.{Smallest}

@@ -15,7 +15,7 @@ use Rattle.sessions.specs.Set.{has}
 use Rattle.sessions.proofs.Members.{has-lt, has-zero}
 use Rattle.sessions.proofs.Counts.{ones-zero}
 use Rattle.sessions.proofs.Operations.{has-or}
-use Rattle.fairness.proofs.Tests.{order}
+use Rattle.fractions.proofs.Cases.{order}
 use Rattle.filling.specs.SmallestShare.{SmallestAmong, SmallestFits, bothOf, bitOf, smallerOf}
 use Rattle.filling.specs.declared.Smallest.{Smallest}
 

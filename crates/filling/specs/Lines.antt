@@ -31,7 +31,7 @@ problemOf d =
       crosses = λ e s. crossesOf (d .path) e s;
     }
 
--- 01, refusal 5: capacities and access rates are at most 1,000,000; of what is not declared they are 0
+-- 01, refusal 5: capacities and access rates are at most 1,000,000
 pub record Ranges (d : Declared) : Type 0 where
   pub capacity : (e : ℕ) → e < 64 → getD (d .capacity) e 0 ≤ 1000000
   pub access : (s : ℕ) → s < 32 → getD (d .access) s 0 ≤ 1000000

@@ -1,4 +1,5 @@
 -- Laws of fractions. A crate above cites them as Rattle.fractions.proofs.NAME.
+pub mod Cases
 pub mod Divisors
 pub mod Order
 pub mod LowestTerms

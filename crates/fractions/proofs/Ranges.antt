@@ -1,7 +1,7 @@
 -- Rates within bounds: their products fit, the test of a rate is exact, and a sum is within the sum of the bounds.
 -- Assumes nothing.
-use mathlib.Core.Path.{_≡_, refl, sym, ap, ap₂, subst}
-use mathlib.Core.Bool.{Bool, _&&_, cond, false, true}
+use mathlib.Core.Path.{_≡_, sym, ap, ap₂, subst}
+use mathlib.Core.Bool.{true}
 use Prim.Native.Nat.{ℕ, _+_, _*_, _^_, _≤_, _<_}
 use native.Mathlib.Nat.{mul-le-mul, mul-le-mul-right, mul-pos, le-of-mul-le-mul-right}
 use native.Mathlib.Omega.{arith}
@@ -11,6 +11,7 @@ use Rattle.fractions.specs.Divisor.{IsGcd}
 use Rattle.fractions.specs.Fraction.{Within, limit, maxDen, maxRate, Lowest, wholeOf, fineOf, addOf, plusOf, sameOf, isRateOf}
 use Rattle.fractions.specs.declared.Rate.{Rate}
 use Rattle.fractions.specs.declared.Sum.the-variants as sum
+use Rattle.fractions.proofs.Cases.{and-both, chose-first, chose-second}
 use Rattle.fractions.proofs.Divisors.{gcd-is, gcd-unique}
 use Rattle.fractions.proofs.LowestTerms.{lowest-same, lowest-lowest, lowest-unique, whole-lowest}
 
@@ -28,15 +29,6 @@ within-more {m} {n} {a} h w =
 pub whole-within : {m n : ℕ} → n ≤ m → Within m (wholeOf n)
 whole-within {m} {n} h =
     record { lowest = whole-lowest n; den = lit≤ tt; num = omega arith }
-
--- what a test chose
-pub chose-first : {A : Type 0} {x y z : A} (t : Bool) → cond t x y ≡ z → (y ≡ z → ⊥) → (t ≡ true) × (x ≡ z)
-chose-first true e n = (refl, e)
-chose-first false e n = absurd (n e)
-
-pub chose-second : {A : Type 0} {x z : A} (y : A) (t : Bool) → cond t x y ≡ z → (x ≡ z → ⊥) → t ≡ false
-chose-second y true e n = absurd (n e)
-chose-second y false e n = refl
 
 -- a sum that comes back as a rate is the sum, and its denominator is within the limit
 pub plus-rate : (a b : Rate) {s : Rate} → plusOf a b ≡ sum.Rate s → (addOf a b ≡ s) × (s .den ≤ maxDen)
@@ -80,17 +72,13 @@ true-same {a} {b} e = eq-eqb _ _ (ap₂ _*_ (ap (λ (r : Rate). r .num) e) (sym 
 pub same-true : {m n : ℕ} {a b : Rate} → Within m a → Within n b → sameOf a b ≡ true → a ≡ b
 same-true wa wb e = lowest-unique (within-lowest wa) (within-lowest wb) (record { cross = eqb-true _ _ e })
 
-both-true : (a b : Bool) → (a && b) ≡ true → (a ≡ true) × (b ≡ true)
-both-true true b e = (refl, e)
-both-true false b e = absurd (let z : _≡_ {A = ℕ} 0 1 = cc in omega arith)
-
 -- the test of a rate passes exactly where it is one
 pub is-rate-within : {a : Rate} → isRateOf a ≡ true → Within maxRate a
 unfolding isRateOf
 is-rate-within {a} e =
-    let p = both-true _ _ e in
-    let q = both-true _ _ (p .1) in
-    let r = both-true _ _ (q .1) in
+    let p = and-both _ _ e in
+    let q = and-both _ _ (p .1) in
+    let r = and-both _ _ (q .1) in
     record {
       lowest =
           record {

@@ -8,7 +8,7 @@ use native.Mathlib.Omega.{arith}
 use Rattle.fractions.specs.Fraction.{Lowest, Within, maxDen, frac, wholeOf, fineOf, lowestOf, addOf, timesOf, eachOf, shareOf}
 use Rattle.fractions.specs.declared.Rate.{Rate}
 use Rattle.fractions.specs.declared.Share.the-variants as share
-use Rattle.fractions.proofs.Ranges.{chose-first, chose-second}
+use Rattle.fractions.proofs.Cases.{chose-first, chose-second}
 use Rattle.fractions.proofs.Order.{same-trans}
 use Rattle.fractions.proofs.LowestTerms.{lowest-same, lowest-pos, lowest-lowest, lowest-cong, lowest-id, den-divides, whole-lowest}
 use Rattle.fractions.proofs.Additions.{add-comm, add-cong}

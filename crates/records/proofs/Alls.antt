@@ -1,36 +1,13 @@
 -- A test of all places below n: one more, one that fails, and each of them.
 -- Assumes nothing.
-use mathlib.Core.Bool.{Bool, _&&_, false, not, true}
+use mathlib.Core.Bool.{Bool, _&&_, false, true}
 use mathlib.Core.Logic.{_⊎_, inl, inr}
 use mathlib.Core.Path.{_≡_, refl, ap, ap₂, sym, _∙_}
-use Prim.Native.Nat.{ℕ, zero, suc, _+_, _≤_, _<_}
-use native.Mathlib.Decide.{decLe}
+use Prim.Native.Nat.{ℕ, zero, suc, _+_, _<_}
 use native.Mathlib.Numerals.{add-one}
 use native.Mathlib.Omega.{arith}
+use Rattle.fractions.proofs.Cases.{and-both, and-false, last}
 use Rattle.records.specs.Format.{all}
-
-and-false : (a : Bool) → (a && false) ≡ false
-and-false true = refl
-and-false false = refl
-
-pub and-both : (a b : Bool) → (a && b) ≡ true → (a ≡ true) × (b ≡ true)
-and-both true b e = (refl, e)
-and-both false b e = absurd (let z : _≡_ {A = ℕ} 0 1 = cc in omega arith)
-
-pub not-true : (a : Bool) → not a ≡ true → a ≡ false
-not-true true e = sym e
-not-true false e = refl
-
-pub not-false : (a : Bool) → not a ≡ false → a ≡ true
-not-false true e = refl
-not-false false e = sym e
-
-last : (i n : ℕ) → i < suc n → (i < n) ⊎ (i ≡ n)
-last i n h = go (decLe n i)
-  where
-    go : Dec (n ≤ i) → (i < n) ⊎ (i ≡ n)
-    go (yes k) = inr (omega arith)
-    go (no k) = inl (omega arith)
 
 pub all-none : (f : ℕ → Bool) → all 0 f ≡ true
 unfolding all
@@ -43,7 +20,7 @@ all-next n f h k = rw add-one (ap₂ _&&_ h k)
 pub all-fails : (n : ℕ) (f : ℕ → Bool) (i : ℕ) → i < n → f i ≡ false → all n f ≡ false
 unfolding all
 all-fails zero f i h e = absurd (omega arith)
-all-fails (suc n) f i h e = go (all-fails n f i) (last i n h)
+all-fails (suc n) f i h e = go (all-fails n f i) (last h)
   where
     go : (i < n → f i ≡ false → all n f ≡ false) → (i < n) ⊎ (i ≡ n) → (all n f && f n) ≡ false
     go ih (inl l) = ap (λ (b : Bool). b && f n) (ih l e)
@@ -52,7 +29,7 @@ all-fails (suc n) f i h e = go (all-fails n f i) (last i n h)
 pub all-at : (n : ℕ) (f : ℕ → Bool) (i : ℕ) → all n f ≡ true → i < n → f i ≡ true
 unfolding all
 all-at zero f i e h = absurd (omega arith)
-all-at (suc n) f i e h = go (all-at n f i) (and-both (all n f) (f n) e) (last i n h)
+all-at (suc n) f i e h = go (all-at n f i) (and-both (all n f) (f n) e) (last h)
   where
     go : (all n f ≡ true → i < n → f i ≡ true) → (all n f ≡ true) × (f n ≡ true) → (i < n) ⊎ (i ≡ n) → f i ≡ true
     go ih b (inl l) = ih (b .0) l

@@ -17,7 +17,7 @@ use Rattle.records.specs.declared.Declared.{Declared}
 use Rattle.records.specs.declared.Read.{Read}
 use Rattle.records.specs.declared.Read.the-variants as read
 use Rattle.records.specs.declared.Record.{Record}
-use Rattle.records.specs.declared.Record.the-variants as entry
+use Rattle.records.specs.declared.Record.the-variants as rec
 use Rattle.records.specs.declared.Verdict.{Verdict}
 use Rattle.records.proofs.ReadRecords.{Bytes, judged-record-ok}
 
@@ -74,17 +74,17 @@ none-in-range = record { capacity = zeros-at-most _ 64; access = zeros-at-most _
 
 declare-in-range : (s : List ℕ) (d : Declared) (x : Record) → InRange d → RecordOk s x → InRange (declareOf s d x)
 unfolding declareOf
-declare-in-range s d (entry.Link e c) p h =
+declare-in-range s d (rec.Link e c) p h =
     record { capacity = set-at-most _ (d .capacity) e c (h .2) (p .capacity); access = p .access; maximum = p .maximum }
-declare-in-range s d (entry.Session t a m n at) p h =
+declare-in-range s d (rec.Session t a m n at) p h =
     record {
       capacity = p .capacity;
       access = set-at-most _ (d .access) t a (h .2) (p .access);
       maximum = set-at-most _ (d .maximum) t m (h .3) (p .maximum);
     }
-declare-in-range s d (entry.Leave t) p h = record { capacity = p .capacity; access = p .access; maximum = p .maximum }
-declare-in-range s d (entry.Change t m) p h = record { capacity = p .capacity; access = p .access; maximum = p .maximum }
-declare-in-range s d (entry.Deliver n) p h = record { capacity = p .capacity; access = p .access; maximum = p .maximum }
+declare-in-range s d (rec.Leave t) p h = record { capacity = p .capacity; access = p .access; maximum = p .maximum }
+declare-in-range s d (rec.Change t m) p h = record { capacity = p .capacity; access = p .access; maximum = p .maximum }
+declare-in-range s d (rec.Deliver n) p h = record { capacity = p .capacity; access = p .access; maximum = p .maximum }
 
 pub declarations-in-range : (s : List ℕ) → Bytes s → InRange (declarationsOf s .declared)
 unfolding declarationsOf

@@ -1,8 +1,8 @@
 -- What was read from an input is within the limits.
 -- Assumes nothing.
-use mathlib.Core.Bool.{Bool, cond, false, true}
+use mathlib.Core.Bool.{true}
 use mathlib.Core.List.{List}
-use mathlib.Core.Path.{_≡_, refl, ap, subst}
+use mathlib.Core.Path.{_≡_, ap, subst}
 use Prim.Native.Nat.{ℕ, _+_, _≤_, _<_}
 use native.Mathlib.Omega.{arith}
 use borrow.Author.Tests.{eqb-true, leb-true, ltb-true}
@@ -16,7 +16,7 @@ use Rattle.records.specs.declared.Read.the-variants as read
 use Rattle.records.specs.declared.Record.{Record}
 use Rattle.records.specs.declared.Verdict.{Verdict}
 use Rattle.records.specs.declared.Verdict.the-variants as verdict
-use Rattle.records.proofs.Alls.{and-both}
+use Rattle.fractions.proofs.Cases.{and-both, cases}
 
 -- a path has 1 to 8 links
 pub path-size : (s : List ℕ) (at n : ℕ) → pathOk s at n ≡ true → (0 < n) × (n ≤ 8)
@@ -25,11 +25,6 @@ path-size s at n e =
     let a = and-both (ltb 0 n) _ e in
     let b = and-both (leb n 8) _ (a .1) in
     (ltb-true 0 n (a .0), leb-true n 8 (b .0))
-
--- what holds of both sides of a test, each under its answer
-cases : {A : Type 0} (P : A → Type 0) (t : Bool) (x y : A) → (t ≡ true → P x) → (t ≡ false → P y) → P (cond t x y)
-cases P true x y f g = f refl
-cases P false x y f g = g refl
 
 abbrev Ok : List ℕ → Read → Type 0
 Ok s (read.Record x) = RecordOk s x

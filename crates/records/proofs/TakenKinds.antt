@@ -1,20 +1,16 @@
 -- Kinds that a call takes are 1 to 5.
 -- Assumes nothing.
-use mathlib.Core.Bool.{Bool, _||_, false, true}
+use mathlib.Core.Bool.{true}
 use mathlib.Core.Logic.{_⊎_, inl, inr}
 use mathlib.Core.Path.{_≡_, refl}
 use Prim.Native.Nat.{ℕ, zero, suc, _≤_, _<_}
 use native.Mathlib.Omega.{arith}
 use lib.Dec.{eqb, leb, ltb}
 use borrow.Author.Tests.{eqb-true, leb-true, ltb-true}
+use Rattle.fractions.proofs.Cases.{and-both, or-either}
 use Rattle.records.specs.Format.{takesOf}
 use Rattle.records.specs.declared.Call.{Call}
 use Rattle.records.specs.declared.Call.the-variants as call
-use Rattle.records.proofs.Alls.{and-both}
-
-or-either : (a b : Bool) → (a || b) ≡ true → (a ≡ true) ⊎ (b ≡ true)
-or-either true b e = inl refl
-or-either false b e = inr e
 
 pub taken-kind : (c : Call) (k : ℕ) → takesOf c k ≡ true → (0 < k) × (k ≤ 5)
 taken-kind call.Calculation k e = go (or-either (eqb k 1) (eqb k 2) e)

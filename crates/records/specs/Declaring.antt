@@ -13,7 +13,7 @@ use Rattle.records.specs.declared.Call.the-variants as call
 use Rattle.records.specs.declared.Declarations.{Declarations}
 use Rattle.records.specs.declared.Declared.{Declared}
 use Rattle.records.specs.declared.Record.{Record}
-use Rattle.records.specs.declared.Record.the-variants as entry
+use Rattle.records.specs.declared.Record.the-variants as rec
 use Rattle.records.specs.declared.Refusal.the-variants as refusal
 use Rattle.records.specs.declared.Verdict.{Verdict}
 use Rattle.records.specs.declared.Verdict.the-variants as verdict
@@ -40,53 +40,53 @@ pathDeclared links s at n = all n (λ h. hasOf (getD s (at + h) 0) links)
 
 -- whether a record of the input s is taken, where these links and sessions are declared: refusals 7 and 8. The calculation takes no other kinds.
 unfoldable pub judgeOf : List ℕ → ℕ → ℕ → Record → Verdict
-judgeOf s links sessions (entry.Link e capacity) = cond (hasOf e links) (verdict.Refused refusal.AlreadyThere) verdict.Taken
-judgeOf s links sessions (entry.Session t access maximum n at) =
+judgeOf s links sessions (rec.Link e capacity) = cond (hasOf e links) (verdict.Refused refusal.AlreadyThere) verdict.Taken
+judgeOf s links sessions (rec.Session t access maximum n at) =
     cond (hasOf t sessions) (verdict.Refused refusal.AlreadyThere)
     (cond (pathDeclared links s at n) verdict.Taken (verdict.Refused refusal.UndeclaredLink))
-judgeOf s links sessions (entry.Leave t) = verdict.Refused refusal.KindNotTaken
-judgeOf s links sessions (entry.Change t maximum) = verdict.Refused refusal.KindNotTaken
-judgeOf s links sessions (entry.Deliver position) = verdict.Refused refusal.KindNotTaken
+judgeOf s links sessions (rec.Leave t) = verdict.Refused refusal.KindNotTaken
+judgeOf s links sessions (rec.Change t maximum) = verdict.Refused refusal.KindNotTaken
+judgeOf s links sessions (rec.Deliver position) = verdict.Refused refusal.KindNotTaken
 
 abbrev pub judging : List ℕ → Declared → Record → Verdict
 judging s d = judgeOf s (d .links) (d .sessions)
 
 -- what a record declares, field by field: a link, its capacity
 abbrev pub linksOf : ℕ → Record → ℕ
-linksOf w (entry.Link e capacity) = put e w
-linksOf w (entry.Session t access maximum n at) = w
-linksOf w (entry.Leave t) = w
-linksOf w (entry.Change t maximum) = w
-linksOf w (entry.Deliver position) = w
+linksOf w (rec.Link e capacity) = put e w
+linksOf w (rec.Session t access maximum n at) = w
+linksOf w (rec.Leave t) = w
+linksOf w (rec.Change t maximum) = w
+linksOf w (rec.Deliver position) = w
 
 abbrev pub capacityOf : List ℕ → Record → List ℕ
-capacityOf l (entry.Link e capacity) = set l e capacity
-capacityOf l (entry.Session t access maximum n at) = l
-capacityOf l (entry.Leave t) = l
-capacityOf l (entry.Change t maximum) = l
-capacityOf l (entry.Deliver position) = l
+capacityOf l (rec.Link e capacity) = set l e capacity
+capacityOf l (rec.Session t access maximum n at) = l
+capacityOf l (rec.Leave t) = l
+capacityOf l (rec.Change t maximum) = l
+capacityOf l (rec.Deliver position) = l
 
 -- a session, its access rate, its maximum
 abbrev pub sessionsOf : ℕ → Record → ℕ
-sessionsOf w (entry.Link e capacity) = w
-sessionsOf w (entry.Session t access maximum n at) = put t w
-sessionsOf w (entry.Leave t) = w
-sessionsOf w (entry.Change t maximum) = w
-sessionsOf w (entry.Deliver position) = w
+sessionsOf w (rec.Link e capacity) = w
+sessionsOf w (rec.Session t access maximum n at) = put t w
+sessionsOf w (rec.Leave t) = w
+sessionsOf w (rec.Change t maximum) = w
+sessionsOf w (rec.Deliver position) = w
 
 abbrev pub accessOf : List ℕ → Record → List ℕ
-accessOf l (entry.Link e capacity) = l
-accessOf l (entry.Session t access maximum n at) = set l t access
-accessOf l (entry.Leave t) = l
-accessOf l (entry.Change t maximum) = l
-accessOf l (entry.Deliver position) = l
+accessOf l (rec.Link e capacity) = l
+accessOf l (rec.Session t access maximum n at) = set l t access
+accessOf l (rec.Leave t) = l
+accessOf l (rec.Change t maximum) = l
+accessOf l (rec.Deliver position) = l
 
 abbrev pub maximumOf : List ℕ → Record → List ℕ
-maximumOf l (entry.Link e capacity) = l
-maximumOf l (entry.Session t access maximum n at) = set l t maximum
-maximumOf l (entry.Leave t) = l
-maximumOf l (entry.Change t maximum) = l
-maximumOf l (entry.Deliver position) = l
+maximumOf l (rec.Link e capacity) = l
+maximumOf l (rec.Session t access maximum n at) = set l t maximum
+maximumOf l (rec.Leave t) = l
+maximumOf l (rec.Change t maximum) = l
+maximumOf l (rec.Deliver position) = l
 
 -- the first k bytes of s from place `at` on, copied into l from a place on
 unfoldable pub copied : ℕ → List ℕ → ℕ → List ℕ → ℕ → List ℕ
@@ -95,11 +95,11 @@ copied (suc k) l from s at = set (copied k l from s at) (from + k) (getD s (at +
 
 -- and its eight path bytes, which stand in the input s
 abbrev pub pathOf : List ℕ → List ℕ → Record → List ℕ
-pathOf s l (entry.Link e capacity) = l
-pathOf s l (entry.Session t access maximum n at) = copied pathLimit l (t * pathLimit) s at
-pathOf s l (entry.Leave t) = l
-pathOf s l (entry.Change t maximum) = l
-pathOf s l (entry.Deliver position) = l
+pathOf s l (rec.Link e capacity) = l
+pathOf s l (rec.Session t access maximum n at) = copied pathLimit l (t * pathLimit) s at
+pathOf s l (rec.Leave t) = l
+pathOf s l (rec.Change t maximum) = l
+pathOf s l (rec.Deliver position) = l
 
 -- the declarations with a record of the input s
 unfoldable pub declareOf : List ℕ → Declared → Record → Declared

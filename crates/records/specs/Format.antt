@@ -12,7 +12,7 @@ use Rattle.records.specs.declared.Call.the-variants as call
 use Rattle.records.specs.declared.Read.{Read}
 use Rattle.records.specs.declared.Read.the-variants as read
 use Rattle.records.specs.declared.Record.{Record}
-use Rattle.records.specs.declared.Record.the-variants as entry
+use Rattle.records.specs.declared.Record.the-variants as rec
 use Rattle.records.specs.declared.Refusal.the-variants as refusal
 
 -- two and four bytes, the highest first
@@ -68,7 +68,7 @@ linkAt s at =
     let link = getD s (at + 1) 0 in
     let capacity = be4 s (at + 2) in
     cond (ltb link linkLimit)
-    (cond (rateOk capacity) (read.Record (entry.Link link capacity)) (read.Refused refusal.RateOutOfRange))
+    (cond (rateOk capacity) (read.Record (rec.Link link capacity)) (read.Refused refusal.RateOutOfRange))
     (read.Refused refusal.NumberTooLarge)
 
 -- kind 2: session 1, access 4, maximum 4, path length 1, eight link bytes
@@ -80,7 +80,7 @@ sessionAt s at =
     let size = getD s (at + 10) 0 in
     cond (ltb session sessionLimit)
     (cond (rateOk access && leb maximum rateLimit)
-    (cond (pathOk s (at + 11) size) (read.Record (entry.Session session access maximum size (at + 11))) (read.Refused refusal.BadPath))
+    (cond (pathOk s (at + 11) size) (read.Record (rec.Session session access maximum size (at + 11))) (read.Refused refusal.BadPath))
     (read.Refused refusal.RateOutOfRange))
     (read.Refused refusal.NumberTooLarge)
 
@@ -88,7 +88,7 @@ sessionAt s at =
 unfoldable pub leaveAt : List ℕ → ℕ → Read
 leaveAt s at =
     let session = getD s (at + 1) 0 in
-    cond (ltb session sessionLimit) (read.Record (entry.Leave session)) (read.Refused refusal.NumberTooLarge)
+    cond (ltb session sessionLimit) (read.Record (rec.Leave session)) (read.Refused refusal.NumberTooLarge)
 
 -- kind 4: session 1, maximum 4
 unfoldable pub changeAt : List ℕ → ℕ → Read
@@ -96,12 +96,12 @@ changeAt s at =
     let session = getD s (at + 1) 0 in
     let maximum = be4 s (at + 2) in
     cond (ltb session sessionLimit)
-    (cond (leb maximum rateLimit) (read.Record (entry.Change session maximum)) (read.Refused refusal.RateOutOfRange))
+    (cond (leb maximum rateLimit) (read.Record (rec.Change session maximum)) (read.Refused refusal.RateOutOfRange))
     (read.Refused refusal.NumberTooLarge)
 
 -- kind 5: position 2
 unfoldable pub deliverAt : List ℕ → ℕ → Read
-deliverAt s at = read.Record (entry.Deliver (be2 s (at + 1)))
+deliverAt s at = read.Record (rec.Deliver (be2 s (at + 1)))
 
 -- a whole record, by its kind
 unfoldable pub bodyAt : List ℕ → ℕ → Read
@@ -122,9 +122,9 @@ readAt c s at =
 
 -- what holds of a record that was read from s: its numbers are within the limits, and its path, if it has one, is a path within s
 abbrev pub RecordOk : List ℕ → Record → Type 0
-RecordOk s (entry.Link e capacity) = (e < linkLimit) × (0 < capacity) × (capacity ≤ rateLimit)
-RecordOk s (entry.Session t access maximum n at) =
+RecordOk s (rec.Link e capacity) = (e < linkLimit) × (0 < capacity) × (capacity ≤ rateLimit)
+RecordOk s (rec.Session t access maximum n at) =
     (t < sessionLimit) × (0 < access) × (access ≤ rateLimit) × (maximum ≤ rateLimit) × (pathOk s at n ≡ true) × (at + pathLimit ≤ length s)
-RecordOk s (entry.Leave t) = t < sessionLimit
-RecordOk s (entry.Change t maximum) = (t < sessionLimit) × (maximum ≤ rateLimit)
-RecordOk s (entry.Deliver position) = position < 65536
+RecordOk s (rec.Leave t) = t < sessionLimit
+RecordOk s (rec.Change t maximum) = (t < sessionLimit) × (maximum ≤ rateLimit)
+RecordOk s (rec.Deliver position) = position < 65536

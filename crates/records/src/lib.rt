@@ -9,9 +9,9 @@ ghost use Rattle.records.specs.declared.Call.the-variants as call;
 ghost use Rattle.records.specs.Declaring.{ownLimitOf, pathDeclared, judgeOf, linksOf, capacityOf, sessionsOf, accessOf, maximumOf, copied, pathOf, declarationsOf};
 
 // 64 links, 32 sessions, paths of at most 8 links, rates of at most 1,000,000 kbit/s, 256 packets, 32,768 bytes of input.
-pub const LINKS: usize = 64;
+pub const LINKS: u8 = 64;
 
-pub const SESSIONS: usize = 32;
+pub const SESSIONS: u8 = 32;
 
 pub const PATH: usize = 8;
 
@@ -74,6 +74,7 @@ pub enum Record {
     },
 }
 
+// A record, or why there is none.
 pub enum Read {
     Record(Record),
     Refused(Refusal),
@@ -155,6 +156,7 @@ pub fn body(kind: u8) -> usize
     }
 }
 
+// A byte as a number.
 pub fn wide(x: u8) -> u64
     ensures { λ r. ⌜ (r ≡ x) × (r < 256) ⌝ }
 {
@@ -196,7 +198,7 @@ fn links_ok(s: &[u8], at: usize, n: usize) -> bool
     ensures { λ r. ⌜ r ≡ linksOk (now (s .entry)) at n ⌝ }
 {
     for h in 0..n {
-        if 64 <= s[at + h] {
+        if LINKS <= s[at + h] {
             return false;
         }
     }
@@ -234,7 +236,7 @@ fn rest_ok(s: &[u8], at: usize, n: usize) -> bool
     requires { ⌜ (n ≤ 8) × (at + 8 ≤ length (now s)) ⌝ }
     ensures { λ r. ⌜ r ≡ restOk (now (s .entry)) at n ⌝ }
 {
-    for h in n..8 {
+    for h in n..PATH {
         if s[at + h] != 255 {
             return false;
         }
@@ -269,7 +271,7 @@ fn link_at(s: &[u8], at: usize) -> Read
 {
     let link = s[at + 1];
     let capacity = number4(s, at + 2);
-    if 64 <= link {
+    if LINKS <= link {
         return Read::Refused(Refusal::NumberTooLarge);
     }
     if !rate_ok(capacity) {
@@ -291,7 +293,7 @@ fn session_at(s: &[u8], at: usize) -> Read
     let maximum = number4(s, at + 6);
     let size = wide(s[at + 10]) as usize;
     let path = at + 11;
-    if 32 <= session {
+    if SESSIONS <= session {
         return Read::Refused(Refusal::NumberTooLarge);
     }
     if !rate_ok(access) {
@@ -318,7 +320,7 @@ fn leave_at(s: &[u8], at: usize) -> Read
     ensures { λ r. ⌜ r ≡ leaveAt (now (s .entry)) at ⌝ }
 {
     let session = s[at + 1];
-    if 32 <= session {
+    if SESSIONS <= session {
         return Read::Refused(Refusal::NumberTooLarge);
     }
     Read::Record(Record::Leave {
@@ -333,7 +335,7 @@ fn change_at(s: &[u8], at: usize) -> Read
 {
     let session = s[at + 1];
     let maximum = number4(s, at + 2);
-    if 32 <= session {
+    if SESSIONS <= session {
         return Read::Refused(Refusal::NumberTooLarge);
     }
     if RATE < maximum {

@@ -20,7 +20,7 @@ fn print_header(links: u64, sessions: u32) {
     io::write_all(STDOUT_FILENO, b"links ");
     io::print_decimal(STDOUT_FILENO, u64::count_ones(links) as u64);
     io::write_all(STDOUT_FILENO, b" sessions ");
-    io::print_decimal(STDOUT_FILENO, u32::count_ones(sessions) as u64);
+    io::print_decimal(STDOUT_FILENO, sessions::size(sessions) as u64);
     io::write_all(STDOUT_FILENO, b"\n");
 }
 
@@ -31,7 +31,7 @@ fn print_session(t: u32, num: u64, den: u64, place: u64) {
     io::print_decimal(STDOUT_FILENO, num);
     io::write_all(STDOUT_FILENO, b"/");
     io::print_decimal(STDOUT_FILENO, den);
-    if place == 64 {
+    if place == calculation::OWN {
         io::write_all(STDOUT_FILENO, b" own\n");
         return;
     }
@@ -42,11 +42,12 @@ fn print_session(t: u32, num: u64, den: u64, place: u64) {
 
 // The sessions by rising number.
 fn print_sessions(sessions: u32, nums: [u64; 32], dens: [u64; 32], places: [u64; 32]) {
-    for t in 0..32u32 {
-        if sessions::has(sessions, t) {
-            let i = t as usize;
-            print_session(t, nums[i], dens[i], places[i]);
-        }
+    let mut left = sessions;
+    while left != 0 {
+        let t = sessions::next(left);
+        let i = t as usize;
+        print_session(t, nums[i], dens[i], places[i]);
+        left = sessions::cut(left, t);
     }
 }
 

@@ -9,7 +9,7 @@ use borrow.Author.Tests.{eq-eqb, ne-eqb}
 use native.Mathlib.Nat.{le-trans, mul-le-mul}
 use Rattle.filling.specs.Lines.{problemOf}
 use Rattle.records.proofs.OwnLimit.{own-limit-le}
-use Rattle.calculation.specs.Binding.{bindingOf, fullyUsed, pathOf}
+use Rattle.calculation.specs.Binding.{bindingOf, fullyUsed, pathBytes}
 use Rattle.calculation.proofs.FirstOf.{eqb-below, first-cong}
 use Rattle.calculation.proofs.binding.Statement.{statement}
 use Rattle.calculation.proofs.binding.Tie as tie
@@ -61,7 +61,7 @@ returns-2 c = let a = c .before .before .before .before .before .before .before 
     let e = ne-eqb (getD (a .t2 .rate) (a .t) 0) _ (λ q. c .before .before .before .before .before .if1 .left (q ∙ sym (ap (λ v. a .t2 .den * v) (c .before .before .before .before .before .before .before .own-limit .ensures)))) in
     rw e
     (c .first-full .ensures
-    ∙ first-cong _ (fullyUsed (problemOf (a .t1)) (a .t2 .den) (λ s. getD (a .t2 .rate) s 0)) (pathOf (a .t1 .path) (a .t))
+    ∙ first-cong _ (fullyUsed (problemOf (a .t1)) (a .t2 .den) (λ s. getD (a .t2 .rate) s 0)) (pathBytes (a .t1 .path) (a .t))
     (λ i. eqb-below i (getD (a .t2 .room) i 0) 0 _ _ (p .1 .full i) (p .1 .spent i)))
 
 pub binding-spec : {M : Type 1} → statement M

@@ -11,7 +11,7 @@ use Rattle.records.specs.Declaring.{declarationsOf}
 use Rattle.records.specs.declared.Declarations.{Declarations}
 use Rattle.records.specs.declared.End.{End}
 use Rattle.filling.specs.Lines.{Ranges}
-use Rattle.calculation.specs.Calculating.{Outcome, afterRecords, calculateOf, doneOf, refusing}
+use Rattle.calculation.specs.Calculating.{Outcome, saidOf, afterRecords, calculateOf, doneOf, refusing}
 use Rattle.calculation.specs.declared.Calculated.{Calculated}
 use Rattle.calculation.proofs.Outcomes.{by-records, ordered-of, ranges-of, short-first, short-second, short-third, too-long}
 use Rattle.calculation.proofs.calculate.Statement.{statement}
@@ -35,7 +35,7 @@ returns c =
     let d = now (a .dens) in
     let p = now (a .places) in
     let e = short-first s n d p (c .if1 .taken) in
-    (told s n d p e, omega arith)
+    (told s n d p e, (ap (λ (o : Outcome). saidOf (o .answer)) (sym e), omega arith))
 
 returns-2 : tie.Need-returns-2
 returns-2 c =
@@ -45,7 +45,7 @@ returns-2 c =
     let d = now (a .dens) in
     let p = now (a .places) in
     let e = short-second s n d p (c .before .if1 .left) (c .if2 .taken) in
-    (told s n d p e, omega arith)
+    (told s n d p e, (ap (λ (o : Outcome). saidOf (o .answer)) (sym e), omega arith))
 
 returns-3 : tie.Need-returns-3
 returns-3 c =
@@ -55,7 +55,7 @@ returns-3 c =
     let d = now (a .dens) in
     let p = now (a .places) in
     let e = short-third s n d p (c .before .before .if1 .left) (c .before .if2 .left) (c .if3 .taken) in
-    (told s n d p e, omega arith)
+    (told s n d p e, (ap (λ (o : Outcome). saidOf (o .answer)) (sym e), omega arith))
 
 returns-4 : tie.Need-returns-4
 returns-4 c =
@@ -65,7 +65,7 @@ returns-4 c =
     let d = now (a .dens) in
     let p = now (a .places) in
     let e = too-long s n d p (c .before .before .before .if1 .left) (c .before .before .if2 .left) (c .before .if3 .left) (c .if4 .taken) in
-    (told s n d p e, omega arith)
+    (told s n d p e, (ap (λ (o : Outcome). saidOf (o .answer)) (sym e), omega arith))
 
 declare-all-requires : tie.Need-declare-all-requires
 declare-all-requires c κs = search needs
@@ -93,7 +93,7 @@ returns-5 c =
     let p = now (a .places) in
     let e = by-records s n d p (c .before .before .before .before .before .before .before .if1 .left) (c .before .before .before .before .before .before .if2 .left) (c .before .before .before .before .before .if3 .left) (c .before .before .before .before .if4 .left)
     ∙ ap (λ (x : End). afterRecords x (declarationsOf s .declared) n d p) (sym (ap (λ (x : Declarations). x .end) (c .before .before .before .declare-all .ensures)) ∙ c .before .end .given .1) in
-    (told s n d p e, omega arith)
+    (told s n d p e, (ap (λ (o : Outcome). saidOf (o .answer)) (sym e), omega arith))
 
 same-length : tie.Need-same-length
 same-length c = search needs
@@ -119,7 +119,7 @@ returns-6 c =
     let x = t .0 ∙ ap (λ (z : Outcome). z .answer) o in
     let y = t .1 ∙ ap (λ (z : Outcome). z .nums) o in
     let w = t .2 ∙ ap (λ (z : Outcome). z .dens) o in
-    ((x, y, w, t .3 ∙ ap (λ (z : Outcome). z .places) o), ordered-of s n d p _ _ _ x y w)
+    ((x, y, w, t .3 ∙ ap (λ (z : Outcome). z .places) o), (ap saidOf x, ordered-of s n d p _ _ _ x y w))
 
 pub calculate-spec : {M : Type 1} → statement M
 calculate-spec =

@@ -6,7 +6,7 @@ use Prim.Native.Nat.{_-_}
 use denote.Ref.{now}
 use Rattle.records.specs.Format.{RecordOk}
 use Rattle.records.specs.Declaring.{judgeOf}
-use Rattle.records.proofs.Alls.{not-true, not-false}
+use Rattle.fractions.proofs.Cases.{not-true, not-false}
 use Rattle.records.proofs.ReadRecords.{path-size}
 use Rattle.records.proofs.judge.Statement.{statement}
 use Rattle.records.proofs.judge.Tie as tie

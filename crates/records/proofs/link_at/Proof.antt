@@ -4,7 +4,7 @@ use borrow.Author.Needs.{needs}
 use borrow.Author.Tests.{lt-ltb, le-ltb}
 use mathlib.Core.Path.{sym, _∙_}
 use Prim.Native.Nat.{_-_}
-use Rattle.records.proofs.Alls.{not-true, not-false}
+use Rattle.fractions.proofs.Cases.{not-true, not-false}
 use Rattle.records.specs.Format.{linkAt}
 use Rattle.records.specs.Format.{linkAt}
 use Rattle.records.proofs.link_at.Statement.{statement}

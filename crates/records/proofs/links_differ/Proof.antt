@@ -7,7 +7,8 @@ use denote.Ref.{now}
 use lib.ListN.{getD}
 use native.Mathlib.Omega.{arith}
 use Rattle.records.specs.Format.{differ, isNew}
-use Rattle.records.proofs.Alls.{all-none, all-next, all-fails, not-true, not-false}
+use Rattle.fractions.proofs.Cases.{not-true, not-false}
+use Rattle.records.proofs.Alls.{all-none, all-next, all-fails}
 use Rattle.records.proofs.links_differ.Statement.{statement}
 use Rattle.records.proofs.links_differ.Tie as tie
 

@@ -6,7 +6,7 @@ use Prim.Native.Nat.{_-_}
 use native.Mathlib.Omega.{arith}
 use borrow.Author.Tests.{le-leb, lt-leb, lt-ltb, le-ltb}
 use Rattle.records.specs.Format.{pathOk}
-use Rattle.records.proofs.Alls.{not-true, not-false}
+use Rattle.fractions.proofs.Cases.{not-true, not-false}
 use Rattle.records.proofs.path_ok.Statement.{statement}
 use Rattle.records.proofs.path_ok.Tie as tie
 

@@ -8,7 +8,7 @@ use lib.ListN.{getD, length}
 use native.Mathlib.Omega.{arith}
 use borrow.Author.Tests.{le-leb, lt-leb}
 use Rattle.records.specs.Format.{bodyOf, readAt, sizeAt}
-use Rattle.records.proofs.Alls.{not-true, not-false}
+use Rattle.fractions.proofs.Cases.{not-true, not-false}
 use Rattle.records.proofs.TakenKinds.{taken-kind}
 use Rattle.records.proofs.read_at.Statement.{statement}
 use Rattle.records.proofs.read_at.Tie as tie

@@ -6,7 +6,7 @@ use Prim.Native.Nat.{_+_, _-_}
 use denote.Ref.{now}
 use borrow.Author.Tests.{le-leb, lt-leb, lt-ltb, le-ltb}
 use Rattle.records.specs.Format.{pathOk, sessionAt}
-use Rattle.records.proofs.Alls.{not-true, not-false}
+use Rattle.fractions.proofs.Cases.{not-true, not-false}
 use Rattle.records.proofs.session_at.Statement.{statement}
 use Rattle.records.proofs.session_at.Tie as tie
 

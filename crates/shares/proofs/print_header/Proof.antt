@@ -24,8 +24,11 @@ slice-aggregate-write-all-2 c = search needs
 write-all-requires-2 : tie.Need-write-all-requires-2
 write-all-requires-2 c κs = search needs
 
+size-requires : tie.Need-size-requires
+size-requires c κs = search needs
+
 cast-print-decimal-2 : tie.Need-cast-print-decimal-2
-cast-print-decimal-2 c = omega (arith, ones-le 32 (c .before .before .before .before .before .args .sessions) (omega arith))
+cast-print-decimal-2 c = search needs
 
 print-decimal-requires-2 : tie.Need-print-decimal-requires-2
 print-decimal-requires-2 c κs = search needs
@@ -49,6 +52,7 @@ print-header-spec =
     print-decimal-requires
     slice-aggregate-write-all-2
     write-all-requires-2
+    size-requires
     cast-print-decimal-2
     print-decimal-requires-2
     slice-aggregate-write-all-3

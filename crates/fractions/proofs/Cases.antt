@@ -1,14 +1,13 @@
--- Tests and numbers by cases: what `T` of a connective says, which side `cond` takes, and where a number or an index lies.
+-- Numbers and tests by cases: where a number or an index lies, what a connective says of its sides, and which side `cond` takes.
 -- Assumes nothing.
 use mathlib.Core.Bool.{Bool, _&&_, _||_, cond, false, not, true}
 use mathlib.Core.Logic.{_⊎_, inl, inr}
-use mathlib.Core.Path.{_≡_, refl}
+use mathlib.Core.Path.{_≡_, refl, sym}
 use Prim.Native.Nat.{ℕ, zero, suc, _*_, _≤_, _<_}
 use native.Mathlib.Decide.{decLe}
 use native.Mathlib.Omega.{arith}
-use lib.Dec.{T, eqb}
 use borrow.Author.Tests.{eq-eqb}
-use Rattle.fairness.specs.Sum.{part}
+use lib.Dec.{T, eqb}
 
 -- NUMBERS -------------------------------------------------------------------------------------------------------------
 
@@ -91,26 +90,48 @@ pub cond-miss : {A : Type 0} (t : Bool) (a b : A) → T (not t) → cond t a b �
 cond-miss true a b h = absurd h
 cond-miss false a b h = refl
 
--- PARTS ---------------------------------------------------------------------------------------------------------------
+-- TESTS AS EQUATIONS --------------------------------------------------------------------------------------------------
 
-pub part-is : (b : Bool) (a : ℕ) → T b → part b a ≡ a
-part-is true a t = refl
-part-is false a t = absurd t
+pub not-true : (a : Bool) → not a ≡ true → a ≡ false
+not-true true e = sym e
+not-true false e = refl
 
-pub not-part : (b : Bool) (a : ℕ) → (T b → ⊥) → part b a ≡ 0
-not-part true a h = absurd (h tt)
-not-part false a h = refl
+pub not-false : (a : Bool) → not a ≡ false → a ≡ true
+not-false true e = refl
+not-false false e = sym e
 
-pub part-zero : (b : Bool) → part b 0 ≡ 0
-part-zero true = refl
-part-zero false = refl
+pub and-both : (a b : Bool) → (a && b) ≡ true → (a ≡ true) × (b ≡ true)
+and-both true b e = (refl, e)
+and-both false b e = absurd (let z : _≡_ {A = ℕ} 0 1 = cc in omega arith)
 
-pub part-le : (b : Bool) (a : ℕ) → part b a ≤ a
-part-le true a = omega arith
-part-le false a = omega arith
+pub and-false : (a : Bool) → (a && false) ≡ false
+and-false true = refl
+and-false false = refl
 
--- two tests that both pass
-pub part-both : (a b : Bool) (v : ℕ) → T a → T b → part a (part b v) ≡ v
-part-both true true v t u = refl
-part-both true false v t u = absurd u
-part-both false b v t u = absurd t
+pub or-either : (a b : Bool) → (a || b) ≡ true → (a ≡ true) ⊎ (b ≡ true)
+or-either true b e = inl refl
+or-either false b e = inr e
+
+pub or-false : (a b : Bool) → (a || b) ≡ false → (a ≡ false) × (b ≡ false)
+or-false true b e = absurd (let z : _≡_ {A = ℕ} 0 1 = cc in omega arith)
+or-false false b e = (refl, e)
+
+-- two tests that pass together are one
+pub same-test : (a b : Bool) → (a ≡ true → b ≡ true) → (b ≡ true → a ≡ true) → a ≡ b
+same-test true b f g = sym (f refl)
+same-test false true f g = g refl
+same-test false false f g = refl
+
+-- what holds of both sides of a test, each under its answer
+pub cases : {A : Type 0} (P : A → Type 0) (t : Bool) (x y : A) → (t ≡ true → P x) → (t ≡ false → P y) → P (cond t x y)
+cases P true x y f g = f refl
+cases P false x y f g = g refl
+
+-- which side was chosen
+pub chose-first : {A : Type 0} {x y z : A} (t : Bool) → cond t x y ≡ z → (y ≡ z → ⊥) → (t ≡ true) × (x ≡ z)
+chose-first true e n = (refl, e)
+chose-first false e n = absurd (n e)
+
+pub chose-second : {A : Type 0} {x z : A} (y : A) (t : Bool) → cond t x y ≡ z → (x ≡ z → ⊥) → t ≡ false
+chose-second y true e n = absurd (n e)
+chose-second y false e n = refl
