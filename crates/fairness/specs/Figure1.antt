@@ -1,6 +1,6 @@
 -- 001, Figure 1 (Centralized B-Neck), over one common denominator, as a definition that computes. F_e and R_e are the sessions at e whose rate is
--- fixed and those whose is not (a link that has had the smallest share has nobody left to fix, so it drops out by itself). 01 adds D: "one more link
--- that only this session crosses". Every session counts with a weight, which is 1 throughout the figure.
+-- fixed and those whose is not (a link that has had the smallest share has nobody left to fix, so it drops out by itself). 01 adds D: one more link
+-- that no other session crosses. Every session counts with a weight, which is 1 throughout the figure.
 -- Assumes nothing: definitions.
 use mathlib.Core.Bool.{Bool, _&&_, _||_, cond, false, not}
 use mathlib.Core.List.{List, [], _∷_}

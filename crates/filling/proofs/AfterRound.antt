@@ -58,7 +58,7 @@ module _ (d : Declared) (z : Fill) (run : Running d z) (l : Given) (small-word :
   x s = getD (z .rate) s 0
 
   abbrev fixed : ℕ → Bool
-  fixed = fixedIn (z .todo)
+  fixed = fixedIn (z .opens)
 
   abbrev b : ℕ
   b = turn .b
@@ -72,29 +72,29 @@ module _ (d : Declared) (z : Fill) (run : Running d z) (l : Given) (small-word :
   abbrev x' : ℕ → ℕ
   x' s = getD rate' s 0
 
-  abbrev todo' : ℕ
-  todo' = openAfter (z .todo) l
+  abbrev opens' : ℕ
+  opens' = openAfter (z .opens) l
 
-  next-filling : Filling w N' x' (fixedIn todo')
-  next-filling = step w (z .den) x fixed (weights d) (run .filling) b ch N' x' (fixedIn todo') (turn .is-round)
+  next-filling : Filling w N' x' (fixedIn opens')
+  next-filling = step w (z .den) x fixed (weights d) (run .filling) b ch N' x' (fixedIn opens') (turn .is-round)
 
-  next-small : SmallDenominator w N' (fixedIn todo')
-  next-small = small-step w (few d) (z .den) x fixed (weights d) (run .filling) b ch N' x' (fixedIn todo') (turn .is-round) (run .small)
+  next-small : SmallDenominator w N' (fixedIn opens')
+  next-small = small-step w (few d) (z .den) x fixed (weights d) (run .filling) b ch N' x' (fixedIn opens') (turn .is-round) (run .small)
 
   pub den-after : z .den * l .count ≤ 118098
-  den-after = small-32 w (few d) N' (fixedIn todo') next-small
+  den-after = small-32 w (few d) N' (fixedIn opens') next-small
 
-  todo-less : todo' < 2 ^ 32
-  todo-less = omega (arith, and-le-l (z .todo) ((2 ^ 32 - 1) - l .chosen), run .word)
+  opens-less : opens' < 2 ^ 32
+  opens-less = omega (arith, and-le-l (z .opens) ((2 ^ 32 - 1) - l .chosen), run .word)
 
-  pub fewer : ones (openAfter (z .todo) l) < ones (z .todo)
+  pub fewer : ones (openAfter (z .opens) l) < ones (z .opens)
   fewer =
       omega (
         arith,
-        falls w (z .den) x fixed (weights d) (run .filling) b ch N' x' (fixedIn todo') (turn .is-round),
+        falls w (z .den) x fixed (weights d) (run .filling) b ch N' x' (fixedIn opens') (turn .is-round),
         turn .is-round .some,
-        open-ones d (z .todo) (omega (arith, run .word)),
-        open-ones d todo' todo-less,
+        open-ones d (z .opens) (omega (arith, run .word)),
+        open-ones d opens' opens-less,
       )
 
   module _ (links' : Links) (links-are : LinksAfter (z .links) l links') where
@@ -110,7 +110,7 @@ module _ (d : Declared) (z : Fill) (run : Running d z) (l : Given) (small-word :
     at-min e h s k = ap (has s) (at-after e h) ∙ has-without 32 s (getD (z .links .at) e 0) (l .chosen) k small-word
 
     next-at : (e : ℕ) → e < 64 → (s : ℕ) → s < 32
-        → (T (w .on e s) → has s (getD (links' .at) e 0) ≡ has s todo') × (T (not (w .on e s)) → has s (getD (links' .at) e 0) ≡ 0)
+        → (T (w .on e s) → has s (getD (links' .at) e 0) ≡ has s opens') × (T (not (w .on e s)) → has s (getD (links' .at) e 0) ≡ 0)
     next-at e h s k = (
       λ o. at-min e h s k ∙ rw (run .at e h s k .0 o) (sym (turn .open-after s k)),
       λ o. at-min e h s k ∙ rw (run .at e h s k .1 o) (omega arith),
@@ -122,7 +122,7 @@ module _ (d : Declared) (z : Fill) (run : Running d z) (l : Given) (small-word :
     chosen-count e h =
         sum-eq 32 (λ s. part (w .on e s) (part (ch s) 1)) (λ s. has s (bitAnd (getD (z .links .at) e 0) (l .chosen)))
         (λ s k.
-        chosen-part (w .on e s) (has s (getD (z .links .at) e 0)) (has s (z .todo)) (has s (l .chosen)) (has-lt s _) (has-lt s _) (run .at e h s k)
+        chosen-part (w .on e s) (has s (getD (z .links .at) e 0)) (has s (z .opens)) (has s (l .chosen)) (has-lt s _) (has-lt s _) (run .at e h s k)
         (turn .chosen-open s k)
         ∙ sym (has-and s (getD (z .links .at) e 0) (l .chosen)))
         ∙ sym
@@ -132,12 +132,12 @@ module _ (d : Declared) (z : Fill) (run : Running d z) (l : Given) (small-word :
     left-next : (e : ℕ) → e < 64 → 0 < getD (z .links .at) e 0 → getD (links' .room) e 0 ≡ leftAt w N' x' e
     unfolding net problemOf
     left-next e h p =
-        let q : 0 < wordOf (z .links) (z .todo) e = rw (word-link d z run e h) p in
+        let q : 0 < wordOf (z .links) (z .opens) e = rw (word-link d z run e h) p in
         let f = left-is d z run e (omega arith) q ∙ room-link d z run e h in
         omega (
           arith,
           room-after e h p,
-          left-after w (z .den) x fixed (weights d) (run .filling) b ch N' x' (fixedIn todo') (turn .is-round) e (omega arith),
+          left-after w (z .den) x fixed (weights d) (run .filling) b ch N' x' (fixedIn opens') (turn .is-round) e (omega arith),
           ap (λ (v : ℕ). l .room * v) (chosen-count e h),
           ap (λ (v : ℕ). v * sum (w .sessions) (λ s. part (w .on e s) (part (ch s) (w .weight s)))) (turn .b-room),
           ap (λ (v : ℕ). v * leftAt w (z .den) x e) (turn .b-count),
@@ -164,7 +164,7 @@ module _ (d : Declared) (z : Fill) (run : Running d z) (l : Given) (small-word :
             links-are .room e h ∙ still-is l (getD (z .links .room) e 0) (getD (z .links .at) e 0) q .0 in
             let after : leftAt w N' x' e + leftAt w (z .den) x b * 0 ≡ openAt w fixed b * leftAt w (z .den) x e =
             subst (λ (v : ℕ). leftAt w N' x' e + leftAt w (z .den) x b * v ≡ openAt w fixed b * leftAt w (z .den) x e) (chosen-count e h ∙ none)
-            (left-after w (z .den) x fixed (weights d) (run .filling) b ch N' x' (fixedIn todo') (turn .is-round) e (omega arith)) in (
+            (left-after w (z .den) x fixed (weights d) (run .filling) b ch N' x' (fixedIn opens') (turn .is-round) e (omega arith)) in (
               openAt w fixed b * a .0,
               mul-pos (turn .is-round .some) (a .1),
               omega (arith, after, ap (λ (v : ℕ). openAt w fixed b * v) (a .2), ap (λ (v : ℕ). openAt w fixed b * a .0 * v) same),
@@ -188,11 +188,11 @@ module _ (d : Declared) (z : Fill) (run : Running d z) (l : Given) (small-word :
               run .links .room e h,
             )
 
-    pub running : Running d (record { den = z .den * l .count; todo = openAfter (z .todo) l; links = links'; rate = rate' })
+    pub running : Running d (record { den = z .den * l .count; opens = openAfter (z .opens) l; links = links'; rate = rate' })
     running =
         record {
           ranges = run .ranges;
-          word = omega (arith, todo-less);
+          word = omega (arith, opens-less);
           links = next-fit;
           rooms = links-are .long;
           rates = long;

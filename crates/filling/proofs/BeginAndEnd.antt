@@ -40,7 +40,7 @@ at-first c (suc (suc h)) a l q = absurd (omega arith)
 
 pub start-running : (d : Declared) → Ranges d → d .sessions < 4294967296 → length (d .capacity) ≡ 64
     → (words : Words) (rate : List ℕ) → Crossing (d .path) (d .sessions) words → rate ≡ replicate 32 0
-    → Running d (record { den = 1; todo = d .sessions; links = record { busy = words .busy; room = d .capacity; at = words .at }; rate = rate })
+    → Running d (record { den = 1; opens = d .sessions; links = record { busy = words .busy; room = d .capacity; at = words .at }; rate = rate })
 unfolding problemOf leftAt
 start-running d ranges small long words rate c q =
     record {
@@ -96,14 +96,14 @@ module _ (d : Declared) (z : Fill) (run : Running d z) where
       no-factor (k .0) (getD (z .links .room) e 0) (k .1)
       (omega (arith, k .2, load-link (problemOf d) x e h, ap (λ (v : ℕ). z .den * v) (cap-link (problemOf d) e h)))
 
-  pub end-filled : z .todo ≡ 0 → Filled d (record { den = z .den; rate = z .rate; room = z .links .room })
+  pub end-filled : z .opens ≡ 0 → Filled d (record { den = z .den; rate = z .rate; room = z .links .room })
   unfolding problemOf
   end-filled q =
       record {
         fair =
-            filling-ends-fair (problemOf d) (z .den) x (fixedIn (z .todo)) (run .filling)
-            (λ s h. let e : has s (z .todo) ≡ 0 = ap (has s) q ∙ has-zero s in rw e tt);
-        small = small-32 (net (problemOf d)) (few d) (z .den) (fixedIn (z .todo)) (run .small);
+            filling-ends-fair (problemOf d) (z .den) x (fixedIn (z .opens)) (run .filling)
+            (λ s h. let e : has s (z .opens) ≡ 0 = ap (has s) q ∙ has-zero s in rw e tt);
+        small = small-32 (net (problemOf d)) (few d) (z .den) (fixedIn (z .opens)) (run .small);
         full = full;
         spent = spent;
         rates = run .rates;

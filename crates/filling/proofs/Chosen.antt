@@ -53,12 +53,12 @@ module _ (d : Declared) (z : Fill) (run : Running d z) where
   R = roomOf (z .links) (z .den) (limitsOf (d .access) (d .maximum))
 
   abbrev W : ℕ → ℕ
-  W = wordOf (z .links) (z .todo)
+  W = wordOf (z .links) (z .opens)
 
-  own-open : (s : ℕ) → 0 < W (64 + s) → has s (z .todo) ≡ 1
-  own-open s p = go (has-or-not s (z .todo))
+  own-open : (s : ℕ) → 0 < W (64 + s) → has s (z .opens) ≡ 1
+  own-open s p = go (has-or-not s (z .opens))
     where
-      go : (has s (z .todo) ≡ 0) ⊎ (has s (z .todo) ≡ 1) → has s (z .todo) ≡ 1
+      go : (has s (z .opens) ≡ 0) ⊎ (has s (z .opens) ≡ 1) → has s (z .opens) ≡ 1
       go (inl q) = absurd (omega (arith, word-shut d z run s q))
       go (inr q) = q
 
@@ -66,7 +66,7 @@ module _ (d : Declared) (z : Fill) (run : Running d z) where
   unfolding problemOf
   on-crosses e h s o = and-split (eqb (has s (d .sessions)) 1) (crossesOf (d .path) e s) (subst T (on-link (problemOf d) e s h) o) .1
 
-  crosses-on : (e : ℕ) → e < 64 → (s : ℕ) → s < 32 → has s (z .todo) ≡ 1 → T (crossesOf (d .path) e s) → T (w .on e s)
+  crosses-on : (e : ℕ) → e < 64 → (s : ℕ) → s < 32 → has s (z .opens) ≡ 1 → T (crossesOf (d .path) e s) → T (w .on e s)
   unfolding problemOf
   crosses-on e h s l q c =
       subst T (sym (on-link (problemOf d) e s h))
@@ -74,7 +74,7 @@ module _ (d : Declared) (z : Fill) (run : Running d z) where
       (T-one (has s (d .sessions)) (omega (arith, run .declared s l, has-lt s (d .sessions)))) c)
 
   module _ (f : Smallest) (best : SmallestAmong (below 96) R W f) (links-lt : f .links < 2 ^ 64) (r : ℕ)
-      (found : AllAt (d .path) (z .todo) (f .links) r) where
+      (found : AllAt (d .path) (z .opens) (f .links) r) where
     bits-link : (e : ℕ) → e < 64 → bitOf (f .own) (f .links) e ≡ has e (f .links)
     bits-link e h = rw (lt-ltb e 64 h) refl
 
@@ -95,7 +95,7 @@ module _ (d : Declared) (z : Fill) (run : Running d z) where
         let a = meets-at (d .path) (f .links) s links-lt (m .1) in
         let o = best .ok (a .0) (omega (arith, a .1)) (bits-link (a .0) (a .1) ∙ a .2) in
         let on = crosses-on (a .0) (a .1) s h (m .0) (a .3) in
-        (a .0, omega (arith, a .1), is-member-link d z run (a .0) (a .1) s h on (T-open (has s (z .todo)) (m .0)), o .1)
+        (a .0, omega (arith, a .1), is-member-link d z run (a .0) (a .1) s h on (T-open (has s (z .opens)) (m .0)), o .1)
 
     gets : (s : ℕ) → s < 32 → (e : ℕ) → e < 96 → has s (W e) ≡ 1 → R e * f .count ≡ f .room * ones (W e) → has s (bitOr (f .own) r) ≡ 1
     gets s h e k q v = go e k q (best .all e k k (ones-pos s (W e) q) v)
@@ -107,7 +107,7 @@ module _ (d : Declared) (z : Fill) (run : Running d z) where
               arith,
               has-or s (f .own) r,
               has-lt s (f .own),
-              found .every s h (open-T (has s (z .todo)) (has-lt s (z .todo)) (m .1))
+              found .every s h (open-T (has s (z .opens)) (has-lt s (z .opens)) (m .1))
                   (at-meets (d .path) (f .links) s e (sym (bits-link e k) ∙ b) (on-crosses e k s (m .0))),
             )
 

@@ -95,18 +95,18 @@ module _ (d : Declared) (z : Fill) (run : Running d z) where
   x s = getD (z .rate) s 0
 
   abbrev fixed : ℕ → Bool
-  fixed = fixedIn (z .todo)
+  fixed = fixedIn (z .opens)
 
   abbrev R : ℕ → ℕ
   R = roomOf (z .links) (z .den) (limitsOf (d .access) (d .maximum))
 
   abbrev W : ℕ → ℕ
-  W = wordOf (z .links) (z .todo)
+  W = wordOf (z .links) (z .opens)
 
   room-own : (j : ℕ) → R (64 + j) ≡ z .den * limitsOf (d .access) (d .maximum) j
   room-own j = rw (le-ltb (64 + j) 64 (omega arith), add-sub-cancel-left 64 j)
 
-  word-own : (j : ℕ) → W (64 + j) ≡ has j (z .todo) * 2 ^ j
+  word-own : (j : ℕ) → W (64 + j) ≡ has j (z .opens) * 2 ^ j
   word-own j = rw (le-ltb (64 + j) 64 (omega arith), add-sub-cancel-left 64 j)
 
   pub room-link : (e : ℕ) → e < 64 → R e ≡ getD (z .links .room) e 0
@@ -115,10 +115,10 @@ module _ (d : Declared) (z : Fill) (run : Running d z) where
   pub word-link : (e : ℕ) → e < 64 → W e ≡ getD (z .links .at) e 0
   word-link e h = rw (lt-ltb e 64 h)
 
-  pub word-open : (j : ℕ) → has j (z .todo) ≡ 1 → W (64 + j) ≡ 2 ^ j
+  pub word-open : (j : ℕ) → has j (z .opens) ≡ 1 → W (64 + j) ≡ 2 ^ j
   word-open j q = word-own j ∙ rw q (omega arith)
 
-  pub word-shut : (j : ℕ) → has j (z .todo) ≡ 0 → W (64 + j) ≡ 0
+  pub word-shut : (j : ℕ) → has j (z .opens) ≡ 0 → W (64 + j) ≡ 0
   word-shut j q = word-own j ∙ rw q (omega arith)
 
   -- the count of ones is the number of open sessions
@@ -130,15 +130,15 @@ module _ (d : Declared) (z : Fill) (run : Running d z) where
   unfolding openAt net problemOf
   open-link e h =
       sum-eq 32 (λ s. part (w .on e s) (part (not (fixed s)) 1)) (λ s. has s (getD (z .links .at) e 0))
-      (λ s l. at-part (w .on e s) (has s (z .todo)) (has s (getD (z .links .at) e 0)) (has-lt s (z .todo)) (run .at e h s l))
+      (λ s l. at-part (w .on e s) (has s (z .opens)) (has s (getD (z .links .at) e 0)) (has-lt s (z .opens)) (run .at e h s l))
       ∙ sym (ones-sum 32 (getD (z .links .at) e 0) (omega (arith, run .links .at e h)))
       ∙ sym (ap ones (word-link e h))
 
   open-limit : (j : ℕ) → j < 32 → openAt w fixed (64 + j) ≡ ones (W (64 + j))
   unfolding problemOf
-  open-limit j h = open-own (problemOf d) fixed j h ∙ open-part (has j (z .todo)) (has-lt j (z .todo)) ∙ go (has-or-not j (z .todo))
+  open-limit j h = open-own (problemOf d) fixed j h ∙ open-part (has j (z .opens)) (has-lt j (z .opens)) ∙ go (has-or-not j (z .opens))
     where
-      go : (has j (z .todo) ≡ 0) ⊎ (has j (z .todo) ≡ 1) → has j (z .todo) ≡ ones (W (64 + j))
+      go : (has j (z .opens) ≡ 0) ⊎ (has j (z .opens) ≡ 1) → has j (z .opens) ≡ ones (W (64 + j))
       go (inl q) = q ∙ sym (ap ones (word-shut j q) ∙ ones-zero)
       go (inr q) = q ∙ sym (ap ones (word-open j q) ∙ ones-two j)
 
@@ -151,7 +151,7 @@ module _ (d : Declared) (z : Fill) (run : Running d z) where
   left-link e h p =
       rw (room-link e h, cap-link (problemOf d) e h) (omega (arith, run .room e h (rw (word-link e h) at p)))
 
-  own-cap : (j : ℕ) → j < 32 → has j (z .todo) ≡ 1 → w .capacity (64 + j) ≡ limitsOf (d .access) (d .maximum) j
+  own-cap : (j : ℕ) → j < 32 → has j (z .opens) ≡ 1 → w .capacity (64 + j) ≡ limitsOf (d .access) (d .maximum) j
   unfolding problemOf
   own-cap j h q =
       cap-own (problemOf d) j
@@ -159,13 +159,13 @@ module _ (d : Declared) (z : Fill) (run : Running d z) where
 
   left-own : (j : ℕ) → j < 32 → 0 < W (64 + j) → leftAt w (z .den) x (64 + j) ≡ R (64 + j)
   unfolding leftAt problemOf net
-  left-own j h p = go (has-or-not j (z .todo))
+  left-own j h p = go (has-or-not j (z .opens))
     where
-      go : (has j (z .todo) ≡ 0) ⊎ (has j (z .todo) ≡ 1) → leftAt w (z .den) x (64 + j) ≡ R (64 + j)
+      go : (has j (z .opens) ≡ 0) ⊎ (has j (z .opens) ≡ 1) → leftAt w (z .den) x (64 + j) ≡ R (64 + j)
       go (inl q) = absurd (omega (arith, word-shut j q))
       go (inr q) =
           rw (room-own j, own-cap j h q, load-own (problemOf d) x j h)
-          (omega (arith, run .filling .none-yet j h (T-open (has j (z .todo)) q)))
+          (omega (arith, run .filling .none-yet j h (T-open (has j (z .opens)) q)))
 
   pub left-is : (e : ℕ) → e < 96 → 0 < W e → leftAt w (z .den) x e ≡ R e
   left-is = each (λ e. 0 < W e → leftAt w (z .den) x e ≡ R e) left-link left-own
@@ -178,21 +178,21 @@ module _ (d : Declared) (z : Fill) (run : Running d z) where
       q' = ap (has s) (sym (word-link e h)) ∙ q
 
       go : T (w .on e s) ⊎ T (not (w .on e s)) → T (w .on e s) × T (not (fixed s))
-      go (inl o) = (o, T-open (has s (z .todo)) (sym (run .at e h s l .0 o) ∙ q'))
+      go (inl o) = (o, T-open (has s (z .opens)) (sym (run .at e h s l .0 o) ∙ q'))
       go (inr o) = absurd (let n : has s (getD (z .links .at) e 0) ≡ 0 = run .at e h s l .1 o in omega (arith, q'))
 
   member-own : (j : ℕ) → j < 32 → (s : ℕ) → s < 32 → has s (W (64 + j)) ≡ 1 → T (w .on (64 + j) s) × T (not (fixed s))
   unfolding problemOf
-  member-own j h s l q = go (has-or-not j (z .todo))
+  member-own j h s l q = go (has-or-not j (z .opens))
     where
-      found : has j (z .todo) ≡ 1 → Dec (j ≡ s) → T (w .on (64 + j) s) × T (not (fixed s))
+      found : has j (z .opens) ≡ 1 → Dec (j ≡ s) → T (w .on (64 + j) s) × T (not (fixed s))
       found t (yes e) = (
         subst T (sym (on-own (problemOf d) j s)) (rw (eq-eqb (64 + j) (64 + s) (omega arith)) tt),
-        T-open (has s (z .todo)) (ap (λ (v : ℕ). has v (z .todo)) (sym e) ∙ t),
+        T-open (has s (z .opens)) (ap (λ (v : ℕ). has v (z .opens)) (sym e) ∙ t),
       )
       found t (no n) = absurd (omega (arith, q, ap (has s) (word-open j t), has-two-other j s n))
 
-      go : (has j (z .todo) ≡ 0) ⊎ (has j (z .todo) ≡ 1) → T (w .on (64 + j) s) × T (not (fixed s))
+      go : (has j (z .opens) ≡ 0) ⊎ (has j (z .opens) ≡ 1) → T (w .on (64 + j) s) × T (not (fixed s))
       go (inl t) = absurd (omega (arith, q, ap (has s) (word-shut j t), has-zero s))
       go (inr t) = found t (ℕ-discrete j s)
 
@@ -200,13 +200,13 @@ module _ (d : Declared) (z : Fill) (run : Running d z) where
   member = each (λ e. (s : ℕ) → s < 32 → has s (W e) ≡ 1 → T (w .on e s) × T (not (fixed s))) member-link member-own
 
   pub is-member-link : (e : ℕ) → e < 64 → (s : ℕ) → s < 32 → T (w .on e s) → T (not (fixed s)) → has s (W e) ≡ 1
-  is-member-link e h s l o t = ap (has s) (word-link e h) ∙ run .at e h s l .0 o ∙ open-T (has s (z .todo)) (has-lt s (z .todo)) t
+  is-member-link e h s l o t = ap (has s) (word-link e h) ∙ run .at e h s l .0 o ∙ open-T (has s (z .opens)) (has-lt s (z .opens)) t
 
   is-member-own : (j : ℕ) → j < 32 → (s : ℕ) → s < 32 → T (w .on (64 + j) s) → T (not (fixed s)) → has s (W (64 + j)) ≡ 1
   unfolding problemOf
   is-member-own j h s l o t =
       let e : j ≡ s = omega (arith, eqb→eq (64 + j) (64 + s) (subst T (on-own (problemOf d) j s) o)) in
-      let q : has j (z .todo) ≡ 1 = ap (λ (v : ℕ). has v (z .todo)) e ∙ open-T (has s (z .todo)) (has-lt s (z .todo)) t in
+      let q : has j (z .opens) ≡ 1 = ap (λ (v : ℕ). has v (z .opens)) e ∙ open-T (has s (z .opens)) (has-lt s (z .opens)) t in
       ap (has s) (word-open j q) ∙ ap (λ (v : ℕ). has s (2 ^ v)) e ∙ has-two-same s
 
   pub is-member : (e : ℕ) → e < 96 → (s : ℕ) → s < 32 → T (w .on e s) → T (not (fixed s)) → has s (W e) ≡ 1
@@ -216,8 +216,8 @@ module _ (d : Declared) (z : Fill) (run : Running d z) where
   word-lt = each (λ e. W e < 2 ^ 32) (λ e h. rw (word-link e h) (omega (arith, run .links .at e h))) own
     where
       own : (j : ℕ) → j < 32 → W (64 + j) < 2 ^ 32
-      own j h = go (has-or-not j (z .todo))
+      own j h = go (has-or-not j (z .opens))
         where
-          go : (has j (z .todo) ≡ 0) ⊎ (has j (z .todo) ≡ 1) → W (64 + j) < 2 ^ 32
+          go : (has j (z .opens) ≡ 0) ⊎ (has j (z .opens) ≡ 1) → W (64 + j) < 2 ^ 32
           go (inl q) = rw (word-shut j q) (omega arith)
           go (inr q) = rw (word-open j q) (pow-lt h)

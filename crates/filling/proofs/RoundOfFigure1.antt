@@ -38,17 +38,17 @@ use Rattle.filling.proofs.OpenSessions.{room-link, word-link, word-lt, 
 
 -- the sessions that are open after a round
 abbrev pub openAfter : ℕ → Given → ℕ
-openAfter todo l = bitAnd todo ((2 ^ 32 - 1) - l .chosen)
+openAfter opens l = bitAnd opens ((2 ^ 32 - 1) - l .chosen)
 
 -- a round of Figure 1 from z, at a link b that has the share l, to the rates x'
 pub record Turn (d : Declared) (z : Fill) (l : Given) (x' : List ℕ) : Type 0 where
   pub b : ℕ
   pub b-room : leftAt (net (problemOf d)) (z .den) (λ s. getD (z .rate) s 0) b ≡ l .room
-  pub b-count : openAt (net (problemOf d)) (fixedIn (z .todo)) b ≡ l .count
-  pub is-round : Round (net (problemOf d)) (z .den) (λ s. getD (z .rate) s 0) (fixedIn (z .todo)) b (λ s. eqb (has s (l .chosen)) 1)
-      (z .den * l .count) (λ s. getD x' s 0) (fixedIn (openAfter (z .todo) l))
-  pub chosen-open : (s : ℕ) → s < 32 → has s (l .chosen) ≡ 1 → has s (z .todo) ≡ 1
-  pub open-after : (s : ℕ) → s < 32 → has s (openAfter (z .todo) l) ≡ min (has s (z .todo)) (1 - has s (l .chosen))
+  pub b-count : openAt (net (problemOf d)) (fixedIn (z .opens)) b ≡ l .count
+  pub is-round : Round (net (problemOf d)) (z .den) (λ s. getD (z .rate) s 0) (fixedIn (z .opens)) b (λ s. eqb (has s (l .chosen)) 1)
+      (z .den * l .count) (λ s. getD x' s 0) (fixedIn (openAfter (z .opens) l))
+  pub chosen-open : (s : ℕ) → s < 32 → has s (l .chosen) ≡ 1 → has s (z .opens) ≡ 1
+  pub open-after : (s : ℕ) → s < 32 → has s (openAfter (z .opens) l) ≡ min (has s (z .opens)) (1 - has s (l .chosen))
 
 module _ (d : Declared) (z : Fill) (run : Running d z) where
   abbrev w : Net
@@ -58,13 +58,13 @@ module _ (d : Declared) (z : Fill) (run : Running d z) where
   x s = getD (z .rate) s 0
 
   abbrev fixed : ℕ → Bool
-  fixed = fixedIn (z .todo)
+  fixed = fixedIn (z .opens)
 
   abbrev R : ℕ → ℕ
   R = roomOf (z .links) (z .den) (limitsOf (d .access) (d .maximum))
 
   abbrev W : ℕ → ℕ
-  W = wordOf (z .links) (z .todo)
+  W = wordOf (z .links) (z .opens)
 
   -- WHAT THE CALLS OF A ROUND ASK -------------------------------------------------------------------------------------
 
@@ -96,10 +96,10 @@ module _ (d : Declared) (z : Fill) (run : Running d z) where
     pub room-enough : (e : ℕ) → e < 64 → 0 < getD (z .links .at) e 0 → l .room * ones (getD (z .links .at) e 0) ≤ getD (z .links .room) e 0 * l .count
     room-enough e h p = rw (word-link d z run e h, room-link d z run e h) at (best .low e (omega arith))
 
-    chosen-open : (s : ℕ) → s < 32 → has s (l .chosen) ≡ 1 → has s (z .todo) ≡ 1
+    chosen-open : (s : ℕ) → s < 32 → has s (l .chosen) ≡ 1 → has s (z .opens) ≡ 1
     chosen-open s h q =
         let a = best .some s h q in
-        open-T (has s (z .todo)) (has-lt s (z .todo)) (member d z run (a .0) (a .1) s h (a .2) .1)
+        open-T (has s (z .opens)) (has-lt s (z .opens)) (member d z run (a .0) (a .1) s h (a .2) .1)
 
     pub undeclared : (s : ℕ) → s < 32 → has s (d .sessions) ≡ 0 → (x s ≡ 0) × (has s (l .chosen) ≡ 0)
     undeclared s h q = (no-rate s h q, go (has-or-not s (l .chosen)))
@@ -110,9 +110,9 @@ module _ (d : Declared) (z : Fill) (run : Running d z) where
 
     -- THE ROUND -------------------------------------------------------------------------------------------------------
 
-    module _ (small-word : l .chosen < 2 ^ 32) (some-open : 0 < z .todo) (rate' : List ℕ) (rates-are : RatesAfter (z .rate) l rate') where
-      todo-lt : z .todo < 2 ^ 32
-      todo-lt = omega (arith, run .word)
+    module _ (small-word : l .chosen < 2 ^ 32) (some-open : 0 < z .opens) (rate' : List ℕ) (rates-are : RatesAfter (z .rate) l rate') where
+      opens-lt : z .opens < 2 ^ 32
+      opens-lt = omega (arith, run .word)
 
       abbrev found-at : Type 0
       found-at = (b : ℕ) × (b < 96) × (l .room ≡ R b) × (l .count ≡ ones (W b)) × (0 < W b)
@@ -121,10 +121,10 @@ module _ (d : Declared) (z : Fill) (run : Running d z) where
       found = go (best .from)
         where
           s : ℕ
-          s = trailingZeros 32 (z .todo)
+          s = trailingZeros 32 (z .opens)
 
-          s-has : has s (z .todo) ≡ 1
-          s-has = low-has 32 (z .todo) some-open todo-lt
+          s-has : has s (z .opens) ≡ 1
+          s-has = low-has 32 (z .opens) some-open opens-lt
 
           go : ((l .room ≡ 1) × (l .count ≡ 0)) ⊎ found-at → found-at
           go (inr b) = b
@@ -133,7 +133,7 @@ module _ (d : Declared) (z : Fill) (run : Running d z) where
               (omega (
                 arith,
                 n .0,
-                rw (n .0, n .1, word-open d z run s s-has, ones-two s) at (best .low (64 + s) (omega (arith, low-lt 32 (z .todo) some-open todo-lt))),
+                rw (n .0, n .1, word-open d z run s s-has, ones-two s) at (best .low (64 + s) (omega (arith, low-lt 32 (z .opens) some-open opens-lt))),
               ))
 
       abbrev b : ℕ
@@ -142,8 +142,8 @@ module _ (d : Declared) (z : Fill) (run : Running d z) where
       abbrev N' : ℕ
       N' = z .den * l .count
 
-      abbrev todo' : ℕ
-      todo' = bitAnd (z .todo) ((2 ^ 32 - 1) - l .chosen)
+      abbrev opens' : ℕ
+      opens' = bitAnd (z .opens) ((2 ^ 32 - 1) - l .chosen)
 
       abbrev ch : ℕ → Bool
       ch s = eqb (has s (l .chosen)) 1
@@ -167,14 +167,14 @@ module _ (d : Declared) (z : Fill) (run : Running d z) where
               rw q (omega arith)
           go (inr p) = rw (b-room, b-count, open-is d z run e h, left-is d z run e h p) (best .low e h)
 
-      has-todo' : (s : ℕ) → s < 32 → has s todo' ≡ min (has s (z .todo)) (1 - has s (l .chosen))
-      has-todo' s h = has-without 32 s (z .todo) (l .chosen) h small-word
+      has-opens' : (s : ℕ) → s < 32 → has s opens' ≡ min (has s (z .opens)) (1 - has s (l .chosen))
+      has-opens' s h = has-without 32 s (z .opens) (l .chosen) h small-word
 
-      todo-hit : (s : ℕ) → s < 32 → has s (l .chosen) ≡ 1 → has s todo' ≡ 0
-      todo-hit s h q = has-todo' s h ∙ rw q (omega arith)
+      opens-hit : (s : ℕ) → s < 32 → has s (l .chosen) ≡ 1 → has s opens' ≡ 0
+      opens-hit s h q = has-opens' s h ∙ rw q (omega arith)
 
-      todo-miss : (s : ℕ) → s < 32 → has s (l .chosen) ≡ 0 → has s todo' ≡ has s (z .todo)
-      todo-miss s h q = has-todo' s h ∙ rw q (omega (arith, has-lt s (z .todo)))
+      opens-miss : (s : ℕ) → s < 32 → has s (l .chosen) ≡ 0 → has s opens' ≡ has s (z .opens)
+      opens-miss s h q = has-opens' s h ∙ rw q (omega (arith, has-lt s (z .opens)))
 
       abbrev x' : ℕ → ℕ
       x' s = getD rate' s 0
@@ -187,7 +187,7 @@ module _ (d : Declared) (z : Fill) (run : Running d z) where
       unfolding rateAfter
       rate-miss s h q = rates-are .rate s h ∙ rw (ne-eqb (has s (l .chosen)) 1 (λ e. omega arith)) refl
 
-      is-round : Round w (z .den) x fixed b ch N' x' (fixedIn todo')
+      is-round : Round w (z .den) x fixed b ch N' x' (fixedIn opens')
       unfolding net problemOf
       is-round =
           record {
@@ -207,11 +207,11 @@ module _ (d : Declared) (z : Fill) (run : Running d z) where
             den = ap (λ (v : ℕ). z .den * v) (sym b-count);
             hit = λ s h t.
                 let q = eqb→eq (has s (l .chosen)) 1 t in
-                (rate-hit s h q ∙ sym b-room ∙ omega arith, eq-eqb (has s todo') 0 (todo-hit s h q));
+                (rate-hit s h q ∙ sym b-room ∙ omega arith, eq-eqb (has s opens') 0 (opens-hit s h q));
             miss = λ s h t.
                 let q = T-not-one (has s (l .chosen)) (has-lt s (l .chosen)) t in
-                (rate-miss s h q ∙ rw b-count (omega arith), ap (λ (v : ℕ). eqb v 0) (todo-miss s h q));
+                (rate-miss s h q ∙ rw b-count (omega arith), ap (λ (v : ℕ). eqb v 0) (opens-miss s h q));
           }
 
       pub turn : Turn d z l rate'
-      turn = record { b = b; b-room = b-room; b-count = b-count; is-round = is-round; chosen-open = chosen-open; open-after = has-todo' }
+      turn = record { b = b; b-room = b-room; b-count = b-count; is-round = is-round; chosen-open = chosen-open; open-after = has-opens' }

@@ -55,22 +55,22 @@ pub record RatesAfter (x : List ℕ) (l : Given) (r : List ℕ) : Type 0 where
 
 -- fixed: no longer open
 abbrev pub fixedIn : ℕ → ℕ → Bool
-fixedIn todo s = eqb (has s todo) 0
+fixedIn opens s = eqb (has s opens) 0
 
 -- what holds before and after each round
 pub record Running (d : Declared) (z : Fill) : Type 0 where
   pub ranges : Ranges d
-  pub word : z .todo < 4294967296
+  pub word : z .opens < 4294967296
   pub links : LinksFit (z .links)
   pub rooms : length (z .links .room) ≡ 64
   pub rates : length (z .rate) ≡ 32
   -- what holds in Figure 1, and its bound on the denominator
-  pub filling : Filling (net (problemOf d)) (z .den) (λ s. getD (z .rate) s 0) (fixedIn (z .todo))
-  pub small : SmallDenominator (net (problemOf d)) (z .den) (fixedIn (z .todo))
-  pub declared : (s : ℕ) → s < 32 → has s (z .todo) ≤ has s (d .sessions)
+  pub filling : Filling (net (problemOf d)) (z .den) (λ s. getD (z .rate) s 0) (fixedIn (z .opens))
+  pub small : SmallDenominator (net (problemOf d)) (z .den) (fixedIn (z .opens))
+  pub declared : (s : ℕ) → s < 32 → has s (z .opens) ≤ has s (d .sessions)
   -- a link's word has the open sessions that cross it
   pub at : (e : ℕ) → e < 64 → (s : ℕ) → s < 32
-      → (T (net (problemOf d) .on e s) → has s (getD (z .links .at) e 0) ≡ has s (z .todo))
+      → (T (net (problemOf d) .on e s) → has s (getD (z .links .at) e 0) ≡ has s (z .opens))
       × (T (not (net (problemOf d) .on e s)) → has s (getD (z .links .at) e 0) ≡ 0)
   -- a busy link's room is what is left of it
   pub room : (e : ℕ) → e < 64 → 0 < getD (z .links .at) e 0

@@ -37,7 +37,7 @@ abbrev pub roomOf : Links → ℕ → (ℕ → ℕ) → ℕ → ℕ
 roomOf k den D e = cond (ltb e 64) (getD (k .room) e 0) (den * D (e - 64))
 
 abbrev pub wordOf : Links → ℕ → ℕ → ℕ
-wordOf k todo e = cond (ltb e 64) (getD (k .at) e 0) (has (e - 64) todo * 2 ^ (e - 64))
+wordOf k opens e = cond (ltb e 64) (getD (k .at) e 0) (has (e - 64) opens * 2 ^ (e - 64))
 
 -- 1 where link e is among the links, or the session of its own limit among the sessions
 abbrev pub bitOf : ℕ → ℕ → ℕ → ℕ
@@ -88,10 +88,10 @@ pub record LinksFit (k : Links) : Type 0 where
 -- r is the smallest share among the links
 pub record LeastLink (k : Links) (r : Smallest) : Type 0 where
   pub fits : SmallestFits r
-  pub among : (den todo : ℕ) (D : ℕ → ℕ) → SmallestAmong (below 64) (roomOf k den D) (wordOf k todo) r
+  pub among : (den opens : ℕ) (D : ℕ → ℕ) → SmallestAmong (below 64) (roomOf k den D) (wordOf k opens) r
 
 -- r is the smallest share of all, where l is the smallest among the links
-pub record LeastOwn (l : Smallest) (den todo : ℕ) (access maximum : List ℕ) (r : Smallest) : Type 0 where
+pub record LeastOwn (l : Smallest) (den opens : ℕ) (access maximum : List ℕ) (r : Smallest) : Type 0 where
   pub fits : SmallestFits r
-  pub among : (k : Links) → SmallestAmong (below 64) (roomOf k den (limitsOf access maximum)) (wordOf k todo) l
-      → SmallestAmong (below 96) (roomOf k den (limitsOf access maximum)) (wordOf k todo) r
+  pub among : (k : Links) → SmallestAmong (below 64) (roomOf k den (limitsOf access maximum)) (wordOf k opens) l
+      → SmallestAmong (below 96) (roomOf k den (limitsOf access maximum)) (wordOf k opens) r

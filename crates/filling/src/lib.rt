@@ -22,7 +22,7 @@ struct Links {
 // How far the rounds are: the denominator, the sessions not yet fixed, the links, and the rates.
 struct Fill {
     pub den: u64,
-    pub todo: u32,
+    pub opens: u32,
     pub links: Links,
     pub rate: [u64; 32],
 }
@@ -121,12 +121,12 @@ fn least_link(k: Links) -> Smallest
 }
 
 // The same with the own limits. 01: "D acts as one more link that only this session crosses".
-fn least_own(l: Smallest, den: u64, todo: u32, access: [u64; 32], maximum: [u64; 32]) -> Smallest
+fn least_own(l: Smallest, den: u64, opens: u32, access: [u64; 32], maximum: [u64; 32]) -> Smallest
     requires { ⌜ SmallestFits l × (den ≤ 118098) × ((s : ℕ) → s < 32 → getD access s 0 ≤ 1000000) ⌝ }
-    ensures { λ r. ⌜ LeastOwn l den todo access maximum r ⌝ }
+    ensures { λ r. ⌜ LeastOwn l den opens access maximum r ⌝ }
 {
     let mut now = l;
-    let mut left = todo;
+    let mut left = opens;
     while left != 0 {
         let s = sessions::next(left);
         let i = s as usize;
@@ -224,23 +224,23 @@ fn rates_after(rate: [u64; 32], sessions: u32, l: Given) -> [u64; 32]
 
 // 01: "all sessions not yet fixed at every link with that share get it".
 fn round(d: Declared, z: Fill) -> Fill
-    requires { ⌜ Running d z × (0 < z .todo) ⌝ }
-    ensures { λ r. ⌜ Running d r × (ones (r .todo) < ones (z .todo)) ⌝ }
+    requires { ⌜ Running d z × (0 < z .opens) ⌝ }
+    ensures { λ r. ⌜ Running d r × (ones (r .opens) < ones (z .opens)) ⌝ }
 {
     let den = z.den;
-    let todo = z.todo;
+    let opens = z.opens;
     let links = z.links;
     let rate = z.rate;
     let access = d.access;
     let maximum = d.maximum;
     let path = d.path;
     let sessions = d.sessions;
-    let t = least_own(least_link(links), den, todo, access, maximum);
+    let t = least_own(least_link(links), den, opens, access, maximum);
     let least = t.room;
     let count = t.count;
     let own = t.own;
     let tight = t.links;
-    let chosen = own | search::all_at(path, todo, tight);
+    let chosen = own | search::all_at(path, opens, tight);
     let l = Given {
         room: least,
         count: count,
@@ -250,7 +250,7 @@ fn round(d: Declared, z: Fill) -> Fill
     let rates = rates_after(rate, sessions, l);
     Fill {
         den: den * count,
-        todo: todo & !chosen,
+        opens: opens & !chosen,
         links: next,
         rate: rates,
     }
@@ -324,7 +324,7 @@ fn start(d: Declared) -> Fill
     };
     Fill {
         den: 1,
-        todo: sessions,
+        opens: sessions,
         links: links,
         rate: rate,
     }
@@ -336,7 +336,7 @@ pub fn filled(d: Declared) -> Fixed
     ensures { λ r. ⌜ Filled d r ⌝ }
 {
     let mut now = start(d);
-    while now.todo != 0 {
+    while now.opens != 0 {
         now = round(d, now);
     }
     let den = now.den;

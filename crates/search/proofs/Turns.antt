@@ -72,15 +72,15 @@ first-hit path links left rest t h p l q sub k x w =
 -- ALL SESSIONS THAT CROSS ---------------------------------------------------------------------------------------------
 
 -- the sessions found so far, and those left to ask for
-pub record Found (path : List ℕ) (todo links found left : ℕ) : Type 0 where
+pub record Found (path : List ℕ) (opens links found left : ℕ) : Type 0 where
   pub left-lt : left < 4294967296
   pub small : found < 4294967296
-  pub sub : (s : ℕ) → s < 32 → has s left ≤ has s todo
-  pub only : (s : ℕ) → s < 32 → has s found ≡ 1 → (has s todo ≡ 1) × Meets path links s
-  pub every : (s : ℕ) → s < 32 → has s todo ≡ 1 → has s left ≡ 0 → Meets path links s → has s found ≡ 1
+  pub sub : (s : ℕ) → s < 32 → has s left ≤ has s opens
+  pub only : (s : ℕ) → s < 32 → has s found ≡ 1 → (has s opens ≡ 1) × Meets path links s
+  pub every : (s : ℕ) → s < 32 → has s opens ≡ 1 → has s left ≡ 0 → Meets path links s → has s found ≡ 1
 
-pub found-none : (path : List ℕ) (todo links : ℕ) → todo < 4294967296 → Found path todo links 0 todo
-found-none path todo links h =
+pub found-none : (path : List ℕ) (opens links : ℕ) → opens < 4294967296 → Found path opens links 0 opens
+found-none path opens links h =
     record {
       left-lt = h;
       small = omega arith;
@@ -89,9 +89,9 @@ found-none path todo links h =
       every = λ s l p q. absurd (omega arith);
     }
 
-pub found-more : (path : List ℕ) (todo links found left t c v : ℕ) → t < 32 → FirstAt path left links t → c ≡ put t found → v ≡ cut t left
-    → Found path todo links found left → Found path todo links c v
-found-more path todo links found left t c v ht f q r w =
+pub found-more : (path : List ℕ) (opens links found left t c v : ℕ) → t < 32 → FirstAt path left links t → c ≡ put t found → v ≡ cut t left
+    → Found path opens links found left → Found path opens links c v
+found-more path opens links found left t c v ht f q r w =
     record {
       left-lt = omega (arith, cut-le t left, w .left-lt);
       small = omega (arith, put-lt 32 t found ht (omega (arith, w .small)));
@@ -103,26 +103,26 @@ found-more path todo links found left t c v ht f q r w =
     hit : (has t left ≡ 1) × Meets path links t
     hit = f .hit ht
 
-    only : (s : ℕ) → s < 32 → has s c ≡ 1 → Dec (t ≡ s) → (has s todo ≡ 1) × Meets path links s
+    only : (s : ℕ) → s < 32 → has s c ≡ 1 → Dec (t ≡ s) → (has s opens ≡ 1) × Meets path links s
     only s l p (yes e) =
-        subst (λ (y : ℕ). (has y todo ≡ 1) × Meets path links y) e (omega (arith, w .sub t ht, has-lt t todo, hit .0), hit .1)
+        subst (λ (y : ℕ). (has y opens ≡ 1) × Meets path links y) e (omega (arith, w .sub t ht, has-lt t opens, hit .0), hit .1)
     only s l p (no n) = w .only s l (sym (has-put-other t s found n) ∙ sym (ap (has s) q) ∙ p)
 
-    every : (s : ℕ) → s < 32 → has s todo ≡ 1 → has s v ≡ 0 → Meets path links s → Dec (t ≡ s) → has s c ≡ 1
+    every : (s : ℕ) → s < 32 → has s opens ≡ 1 → has s v ≡ 0 → Meets path links s → Dec (t ≡ s) → has s c ≡ 1
     every s l p z m (yes e) = ap (has s) q ∙ subst (λ (y : ℕ). has y (put t found) ≡ 1) e (has-put-same t found)
     every s l p z m (no n) =
         ap (has s) q ∙ has-put-other t s found n ∙ w .every s l p (sym (has-cut-other t s left n) ∙ sym (ap (has s) r) ∙ z) m
 
 -- nobody left crosses one of the links
-pub found-end : (path : List ℕ) (todo links found left r : ℕ) → 32 ≤ r → FirstAt path left links r → Found path todo links found left
-    → AllAt path todo links found
-found-end path todo links found left r h f w =
+pub found-end : (path : List ℕ) (opens links found left r : ℕ) → 32 ≤ r → FirstAt path left links r → Found path opens links found left
+    → AllAt path opens links found
+found-end path opens links found left r h f w =
     record { small = w .small; only = w .only; every = λ s l p m. go s l p m (has-or-not s left) }
   where
-    go : (s : ℕ) → s < 32 → has s todo ≡ 1 → Meets path links s → (has s left ≡ 0) ⊎ (has s left ≡ 1) → has s found ≡ 1
+    go : (s : ℕ) → s < 32 → has s opens ≡ 1 → Meets path links s → (has s left ≡ 0) ⊎ (has s left ≡ 1) → has s found ≡ 1
     go s l p m (inl z) = w .every s l p z m
     go s l p m (inr z) = absurd (f .none-before s (omega arith) z m)
 
-pub found-all : (path : List ℕ) (todo links found left : ℕ) → left ≡ 0 → Found path todo links found left → AllAt path todo links found
-found-all path todo links found left z w =
+pub found-all : (path : List ℕ) (opens links found left : ℕ) → left ≡ 0 → Found path opens links found left → AllAt path opens links found
+found-all path opens links found left z w =
     record { small = w .small; only = w .only; every = λ s l p m. w .every s l p (ap (has s) z ∙ has-zero s) m }

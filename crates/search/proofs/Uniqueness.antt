@@ -21,11 +21,11 @@ first-at-unique path left links q r f g = go (decLt q r) (decLt r q)
     go (no n) (yes l) = absurd (not-below r q g f l)
     go (no n) (no m) = omega arith
 
-pub all-at-unique : (path : List ℕ) (todo links q r : ℕ) → AllAt path todo links q → AllAt path todo links r → q ≡ r
-all-at-unique path todo links q r f g =
+pub all-at-unique : (path : List ℕ) (opens links q r : ℕ) → AllAt path opens links q → AllAt path opens links r → q ≡ r
+all-at-unique path opens links q r f g =
     same-members 32 q r (omega (arith, f .small)) (omega (arith, g .small)) (λ s h. go s h (has-or-not s q) (has-or-not s r))
   where
-    there : (a b s : ℕ) → AllAt path todo links a → AllAt path todo links b → s < 32 → has s a ≡ 1 → has s b ≡ 1
+    there : (a b s : ℕ) → AllAt path opens links a → AllAt path opens links b → s < 32 → has s a ≡ 1 → has s b ≡ 1
     there a b s x y h p = let w = x .only s h p in y .every s h (w .0) (w .1)
 
     go : (s : ℕ) → s < 32 → (has s q ≡ 0) ⊎ (has s q ≡ 1) → (has s r ≡ 0) ⊎ (has s r ≡ 1) → has s q ≡ has s r

@@ -16,8 +16,8 @@ pub record FirstAt (path : List ℕ) (left links r : ℕ) : Type 0 where
   pub none-before : (s : ℕ) → s < r → has s left ≡ 1 → Meets path links s → ⊥
   pub hit : r < 32 → (has r left ≡ 1) × Meets path links r
 
--- r has exactly the sessions of todo that cross one of the links
-pub record AllAt (path : List ℕ) (todo links r : ℕ) : Type 0 where
+-- r has exactly the sessions of opens that cross one of the links
+pub record AllAt (path : List ℕ) (opens links r : ℕ) : Type 0 where
   pub small : r < 4294967296
-  pub only : (s : ℕ) → s < 32 → has s r ≡ 1 → (has s todo ≡ 1) × Meets path links s
-  pub every : (s : ℕ) → s < 32 → has s todo ≡ 1 → Meets path links s → has s r ≡ 1
+  pub only : (s : ℕ) → s < 32 → has s r ≡ 1 → (has s opens ≡ 1) × Meets path links s
+  pub every : (s : ℕ) → s < 32 → has s opens ≡ 1 → Meets path links s → has s r ≡ 1

@@ -23,12 +23,12 @@ pub fn first_at(path: [u8; 256], left: u32, links: u64) -> u32
     found
 }
 
-// All sessions of todo that cross one of the links.
-pub fn all_at(path: [u8; 256], todo: u32, links: u64) -> u32
-    ensures { λ r. ⌜ AllAt path todo links r ⌝ }
+// All sessions of opens that cross one of the links.
+pub fn all_at(path: [u8; 256], opens: u32, links: u64) -> u32
+    ensures { λ r. ⌜ AllAt path opens links r ⌝ }
 {
     let mut found: u32 = 0;
-    let mut left = todo;
+    let mut left = opens;
     while left != 0 {
         let s = first_at(path, left, links);
         if 32 <= s {

@@ -23,7 +23,7 @@ Inv-loop d z out₀ left₀ den out left =
 abbrev μ-loop : tie.MeasureT-loop
 μ-loop d z out₀ left₀ den out left = left
 
--- the next session is below 32, and less is left
+-- the next member is below 32, and less is left
 below : (c : tie.After-next Inv-loop μ-loop) → c .next .result < 32
 below c = next-below 32 (c .before .before .loop .left) (c .next .result) (omega arith) (c .before .before .loop .inv .0) (c .next .ensures)
 

@@ -11,7 +11,7 @@ abbrev Inv-loop : tie.InvT-loop
 Inv-loop d now₀ now = Running d now
 
 abbrev μ-loop : tie.MeasureT-loop
-μ-loop d now₀ now = ones (now .todo)
+μ-loop d now₀ now = ones (now .opens)
 
 start-requires : tie.Need-start-requires Inv-loop μ-loop
 start-requires c κs = c .pre

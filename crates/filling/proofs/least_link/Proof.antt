@@ -17,7 +17,7 @@ abbrev Inv-loop : tie.InvT-loop
 Inv-loop k l₀ left₀ l left =
     (left < 2 ^ 64)
     × SmallestFits l
-    × ((den todo : ℕ) (D : ℕ → ℕ) → SmallestAmong (seen-links left) (roomOf k den D) (wordOf k todo) l)
+    × ((den opens : ℕ) (D : ℕ → ℕ) → SmallestAmong (seen-links left) (roomOf k den D) (wordOf k opens) l)
 
 abbrev μ-loop : tie.MeasureT-loop
 μ-loop k l₀ left₀ l left = left
@@ -39,7 +39,7 @@ loop-holds : tie.Need-loop-holds Inv-loop μ-loop
 loop-holds c = (
   omega arith,
   record { room = omega arith; count = omega arith; own = omega arith; links = omega arith },
-  λ den todo D. best-first (c .args .t1) den todo D (c .pre .busy),
+  λ den opens D. best-first (c .args .t1) den opens D (c .pre .busy),
 )
 
 next-link-requires : tie.Need-next-link-requires Inv-loop μ-loop
@@ -89,15 +89,15 @@ loop-again c =
       omega (arith, less c),
       subst SmallestFits (sym (y .ensures))
           (smaller-fits (z .l) _ _ 0 (x .result) (z .inv .1) (p .room e h) (omega (arith, p .at e h)) (omega arith) one),
-      λ den todo D.
-          best-link k den todo D (z .left) e (v .result) (x .result) (z .l) (y .result) h (v .ensures) (x .ensures) (y .ensures)
-          (z .inv .2 den todo D),
+      λ den opens D.
+          best-link k den opens D (z .left) e (v .result) (x .result) (z .l) (y .result) h (v .ensures) (x .ensures) (y .ensures)
+          (z .inv .2 den opens D),
     )
 
 returns : tie.Need-returns Inv-loop μ-loop
 returns c =
     let z = c .before .loop in
-    record { fits = z .inv .1; among = λ den todo D. best-links _ _ (z .left) _ (omega arith) (z .inv .2 den todo D) }
+    record { fits = z .inv .1; among = λ den opens D. best-links _ _ (z .left) _ (omega arith) (z .inv .2 den opens D) }
 
 pub least-link-spec : {M : Type 1} → statement M
 least-link-spec =

@@ -19,15 +19,15 @@ use Rattle.filling.proofs.least_own.Statement.{statement}
 use Rattle.filling.proofs.least_own.Tie as tie
 
 abbrev Inv-loop : tie.InvT-loop
-Inv-loop den todo access maximum now₀ left₀ now left =
+Inv-loop den opens access maximum now₀ left₀ now left =
     (left < 2 ^ 32)
-    × ((s : ℕ) → s < 32 → has s left ≤ has s todo)
+    × ((s : ℕ) → s < 32 → has s left ≤ has s opens)
     × SmallestFits now
-    × ((k : Links) → SmallestAmong (below 64) (roomOf k den (limitsOf access maximum)) (wordOf k todo) now₀
-    → SmallestAmong (seen left) (roomOf k den (limitsOf access maximum)) (wordOf k todo) now)
+    × ((k : Links) → SmallestAmong (below 64) (roomOf k den (limitsOf access maximum)) (wordOf k opens) now₀
+    → SmallestAmong (seen left) (roomOf k den (limitsOf access maximum)) (wordOf k opens) now)
 
 abbrev μ-loop : tie.MeasureT-loop
-μ-loop den todo access maximum now₀ left₀ now left = left
+μ-loop den opens access maximum now₀ left₀ now left = left
 
 -- the next member, and that less is left without it
 small : (c : tie.After-next Inv-loop μ-loop) → c .next .result < 32
@@ -56,7 +56,7 @@ room-fits c =
 loop-holds : tie.Need-loop-holds Inv-loop μ-loop
 loop-holds c =
     let a = c .args in
-    (omega arith, λ s h. omega arith, c .pre .0, λ k q. best-start k (a .den) (a .todo) (limitsOf (a .t4) (a .t5)) _ q)
+    (omega arith, λ s h. omega arith, c .pre .0, λ k q. best-start k (a .den) (a .opens) (limitsOf (a .t4) (a .t5)) _ q)
 
 next-requires : tie.Need-next-requires Inv-loop μ-loop
 next-requires c κs = search needs
@@ -104,14 +104,14 @@ loop-again c =
     let y = c .before .smaller in
     let v = c .cut in
     let one : x .result < 2 ^ 32 = omega (arith, x .ensures, pow-lt {i = s} {j = 32} h) in
-    let is-open : has s (a .todo) ≡ 1 = omega (arith, has-lt s (a .todo), z .inv .1 s h, there (c .before .before .before .before)) in
+    let is-open : has s (a .opens) ≡ 1 = omega (arith, has-lt s (a .opens), z .inv .1 s h, there (c .before .before .before .before)) in
     let p = c .before .before .before in
     let new = y .ensures ∙ ap (λ (t : ℕ). smallerOf (z .now) (a .den * t) (x .result) (x .result) 0) (p .own-limit .ensures) in (
       omega (arith, less c),
       λ t l. omega (arith, ap (has t) (v .ensures), has-cut-le t s (z .left), z .inv .1 t l),
       subst SmallestFits (sym (y .ensures)) (smaller-fits (z .now) _ _ (x .result) 0 (z .inv .2) (room-fits p) one one (omega arith)),
       λ k q.
-          best-own k (a .den) (a .todo) (limitsOf (a .t4) (a .t5)) (z .left) s (v .result) (x .result) (z .now) (y .result) h is-open
+          best-own k (a .den) (a .opens) (limitsOf (a .t4) (a .t5)) (z .left) s (v .result) (x .result) (z .now) (y .result) h is-open
           (v .ensures) (x .ensures) new (z .inv .3 k q),
     )
 

@@ -25,12 +25,12 @@ abbrev limits : tie.After-all-at → ℕ → ℕ
 limits c = let d = c .before .before .before .before .before .before .before .before .args .d in limitsOf (d .access) (d .maximum)
 
 -- the smallest share, and the sessions that get it
-best : (c : tie.After-all-at) → GivenAmong (roomOf (state c .links) (state c .den) (limits c)) (wordOf (state c .links) (state c .todo)) (given c)
+best : (c : tie.After-all-at) → GivenAmong (roomOf (state c .links) (state c .den) (limits c)) (wordOf (state c .links) (state c .opens)) (given c)
 best c =
     let o = c .before .before .before .before .before .before .before .before in
     let z = state c in
     let t = c .before .least-own in
-    let among = t .ensures .among (z .links) (c .before .before .least-link .ensures .among (z .den) (z .todo) (limits c)) in
+    let among = t .ensures .among (z .links) (c .before .before .least-link .ensures .among (z .den) (z .opens) (limits c)) in
     joined (o .args .d) (o .args .z) (o .pre .0) (t .result) among (omega (arith, t .ensures .fits .links)) (c .all-at .result) (c .all-at .ensures)
 
 chosen-lt : (c : tie.After-all-at) → given c .chosen < 2 ^ 32

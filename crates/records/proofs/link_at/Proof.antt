@@ -6,7 +6,6 @@ use mathlib.Core.Path.{sym, _∙_}
 use Prim.Native.Nat.{_-_}
 use Rattle.fractions.proofs.Cases.{not-true, not-false}
 use Rattle.records.specs.Format.{linkAt}
-use Rattle.records.specs.Format.{linkAt}
 use Rattle.records.proofs.link_at.Statement.{statement}
 use Rattle.records.proofs.link_at.Tie as tie
 

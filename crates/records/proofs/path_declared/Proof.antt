@@ -7,7 +7,6 @@ use denote.Ref.{now}
 use lib.ListN.{getD}
 use native.Mathlib.Omega.{arith}
 use Rattle.fractions.proofs.Cases.{not-true, not-false}
-use Rattle.records.proofs.Alls.{all-none, all-next, all-fails}
 use Rattle.sessions.specs.Set.{hasOf}
 use Rattle.records.specs.Declaring.{pathDeclared}
 use Rattle.records.proofs.Alls.{all-none, all-next, all-fails}

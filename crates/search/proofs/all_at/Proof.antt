@@ -11,13 +11,13 @@ use Rattle.search.proofs.all_at.Statement.{statement}
 use Rattle.search.proofs.all_at.Tie as tie
 
 abbrev Inv-loop : tie.InvT-loop
-Inv-loop path todo links found₀ left₀ found left = Found path todo links found left
+Inv-loop path opens links found₀ left₀ found left = Found path opens links found left
 
 abbrev μ-loop : tie.MeasureT-loop
-μ-loop path todo links found₀ left₀ found left = left
+μ-loop path opens links found₀ left₀ found left = left
 
 loop-holds : tie.Need-loop-holds Inv-loop μ-loop
-loop-holds c = found-none (c .args .path) (c .args .todo) (c .args .links) (omega arith)
+loop-holds c = found-none (c .args .path) (c .args .opens) (c .args .links) (omega arith)
 
 first-at-requires : tie.Need-first-at-requires Inv-loop μ-loop
 first-at-requires c κs = search needs
@@ -27,7 +27,7 @@ returns c =
     let a = c .before .before .before .before .args in
     let z = c .before .before .before .loop in
     let f = c .before .first-at in
-    found-end (a .path) (a .todo) (a .links) (z .found) (z .left) (f .result) (c .if1 .taken) (f .ensures) (z .inv)
+    found-end (a .path) (a .opens) (a .links) (z .found) (z .left) (f .result) (c .if1 .taken) (f .ensures) (z .inv)
 
 put-requires : tie.Need-put-requires Inv-loop μ-loop
 put-requires c κs = omega arith
@@ -48,14 +48,14 @@ loop-again c =
     let f = c .before .before .before .first-at in
     let y = c .before .put in
     let v = c .cut in
-    found-more (a .path) (a .todo) (a .links) (z .found) (z .left) (f .result) (y .result) (v .result) (omega arith) (f .ensures) (y .ensures)
+    found-more (a .path) (a .opens) (a .links) (z .found) (z .left) (f .result) (y .result) (v .result) (omega arith) (f .ensures) (y .ensures)
     (v .ensures) (z .inv)
 
 returns-2 : tie.Need-returns-2 Inv-loop μ-loop
 returns-2 c =
     let a = c .before .before .args in
     let z = c .before .loop in
-    found-all (a .path) (a .todo) (a .links) (z .found) (z .left) (omega arith) (z .inv)
+    found-all (a .path) (a .opens) (a .links) (z .found) (z .left) (omega arith) (z .inv)
 
 pub all-at-spec : {M : Type 1} → statement M
 all-at-spec =
