@@ -1,4 +1,4 @@
--- What the results say of each declared session: the rate in lowest terms, and the binding place.
+-- What the results say of each declared session (01, "The direct calculation"): the rate in lowest terms, and the binding place.
 -- Assumes nothing: definitions.
 use mathlib.Core.Path.{_≡_}
 use Prim.Native.Nat.{ℕ, _<_}

@@ -1,4 +1,4 @@
--- What is asked of a calculation of rates: they are in lowest terms, and max-min fair.
+-- What is asked of a calculation of rates (00, demand 2; 01, "Fractions"): they are in lowest terms, and max-min fair.
 -- Assumes nothing: definitions.
 use Prim.Native.Nat.{ℕ}
 use Rattle.fractions.specs.Fraction.{Lowest, Same, frac, lowestOf}

@@ -1,4 +1,4 @@
--- Sums over 0 .. n-1.
+-- Sums over 0 .. n-1: the sums of 001, Figure 1, over links and sessions.
 -- Assumes nothing: definitions.
 use mathlib.Core.Bool.{Bool, false, true}
 use Prim.Native.Nat.{ℕ, zero, suc, _+_}

@@ -1,14 +1,15 @@
 -- Loops that write an array at the members of a set: the places that were visited have their new values, the others their old ones.
 -- Assumes nothing.
 use mathlib.Core.List.{List}
-use mathlib.Core.Path.{_≡_, refl, sym, ap, _∙_, subst}
+use mathlib.Core.Path.{_≡_, refl, sym, ap, _∙_}
 use Prim.Native.Nat.{ℕ, _<_}
 use native.Mathlib.Decide.{ℕ-discrete}
 use native.Mathlib.Omega.{arith}
 use lib.ListN.{getD, length, length-set, set}
-use lib.Seq.{getD-set-other, getD-set-same}
+use lib.Seq.{getD-set-other}
 use Rattle.sessions.specs.Set.{cut, has}
 use Rattle.sessions.proofs.Members.{has-cut-other, has-cut-same, has-zero}
+use Rattle.sessions.proofs.Writes.{written-turn}
 
 -- the places that are not in `left` have f's values, those in it their old ones
 pub record Visited (f : ℕ → ℕ) (old : List ℕ) (left : ℕ) (now : List ℕ) : Type 0 where
@@ -26,17 +27,12 @@ module _ (f : ℕ → ℕ) (old : List ℕ) where
   visited-turn left i v now more hi e q h =
       record {
         long = length-set now i more ∙ h .long;
-        done = λ j k z. done j k z (ℕ-discrete i j);
+        done = written-turn (λ j. j < length old) f left i v now more (omega (arith, h .long)) e q (h .done);
         rest = λ j z. rest j z (ℕ-discrete i j);
       }
     where
       same : (j : ℕ) → (i ≡ j → ⊥) → has j v ≡ has j left
       same j n = ap (has j) q ∙ has-cut-other i j left n
-
-      done : (j : ℕ) → j < length old → has j v ≡ 0 → Dec (i ≡ j) → getD (set now i more) j 0 ≡ f j
-      done j k z (yes w) =
-          subst (λ (y : ℕ). getD (set now i more) y 0 ≡ f y) w (getD-set-same now i more 0 (omega (arith, h .long)) ∙ e)
-      done j k z (no n) = getD-set-other now i j more 0 (λ w. n (sym w)) ∙ h .done j k (sym (same j n) ∙ z)
 
       rest : (j : ℕ) → has j v ≡ 1 → Dec (i ≡ j) → getD (set now i more) j 0 ≡ getD old j 0
       rest j z (yes w) = absurd (omega (arith, z, ap (λ (y : ℕ). has y v) (sym w), ap (has i) q, has-cut-same i left))

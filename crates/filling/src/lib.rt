@@ -265,12 +265,6 @@ fn no_words() -> Words
     }
 }
 
-fn no_rates() -> [u64; 32]
-    ensures { λ r. ⌜ r ≡ replicate 32 0 ⌝ }
-{
-    [0u64; 32]
-}
-
 // The words with session s at all links of its path.
 fn with_path(k: Words, path: [u8; 256], s: u32) -> Words
     requires { ⌜ (s < 32) × (length (k .at) ≡ 64) ⌝ }
@@ -316,7 +310,7 @@ fn start(d: Declared) -> Fill
     let words = crossing(path, sessions);
     let busy = words.busy;
     let at = words.at;
-    let rate = no_rates();
+    let rate = records::no_rates();
     let links = Links {
         busy: busy,
         room: room,

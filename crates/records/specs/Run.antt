@@ -1,5 +1,6 @@
--- What a run of records means: from the left, each record is read where the one before ended, and acts; the first that is refused ends it.
--- One definition for all calls that read records: S is what the records act on, `judge` says whether a record is taken, and `act` what it leaves.
+-- What a run of records means (01, "Records", "What is turned away"): from the left, each record is read where the one before ended, and acts; the
+-- first that is refused ends it. One definition for all calls that read records: S is what the records act on, `judge` says whether a record is
+-- taken, and `act` what it leaves.
 -- Assumes nothing: definitions.
 use mathlib.Core.Bool.{cond}
 use mathlib.Core.List.{List}

@@ -133,7 +133,7 @@ pub fn number(r: Refusal) -> u64
 }
 
 // Whether the call takes records of this kind.
-pub fn takes(call: Call, kind: u8) -> bool
+fn takes(call: Call, kind: u8) -> bool
     ensures { λ r. ⌜ r ≡ takesOf call kind ⌝ }
 {
     match call {
@@ -143,7 +143,7 @@ pub fn takes(call: Call, kind: u8) -> bool
 }
 
 // The length of a body.
-pub fn body(kind: u8) -> usize
+fn body(kind: u8) -> usize
     ensures { λ r. ⌜ (r ≡ bodyOf kind) × (r ≤ 18) ⌝ }
 {
     match kind {
@@ -164,7 +164,7 @@ pub fn wide(x: u8) -> u64
 }
 
 // Two bytes, the highest first.
-pub fn number2(s: &[u8], at: usize) -> u64
+fn number2(s: &[u8], at: usize) -> u64
     requires { ⌜ at + 2 ≤ length (now s) ⌝ }
     ensures { λ r. ⌜ (r ≡ be2 (now (s .entry)) at) × (r < 65536) ⌝ }
 {
@@ -174,7 +174,7 @@ pub fn number2(s: &[u8], at: usize) -> u64
 }
 
 // Four bytes, the highest first.
-pub fn number4(s: &[u8], at: usize) -> u64
+fn number4(s: &[u8], at: usize) -> u64
     requires { ⌜ at + 4 ≤ length (now s) ⌝ }
     ensures { λ r. ⌜ r ≡ be4 (now (s .entry)) at ⌝ }
 {
@@ -186,7 +186,7 @@ pub fn number4(s: &[u8], at: usize) -> u64
 }
 
 // Whether a capacity or an access rate is one.
-pub fn rate_ok(n: u64) -> bool
+fn rate_ok(n: u64) -> bool
     ensures { λ r. ⌜ r ≡ rateOk n ⌝ }
 {
     0 < n && n <= RATE
@@ -588,7 +588,8 @@ fn no_capacities() -> [u64; 64]
     [0; 64]
 }
 
-fn no_rates() -> [u64; 32]
+// A rate of 0 for every session.
+pub fn no_rates() -> [u64; 32]
     ensures { λ r. ⌜ r ≡ replicate 32 0 ⌝ }
 {
     [0; 32]

@@ -3,4 +3,5 @@ pub mod Members
 pub mod Counts
 pub mod Operations
 pub mod Walks
+pub mod Writes
 mod Examples

@@ -1,5 +1,6 @@
 //! What the tests share: records as bytes, a machine that notes what it took, a small generator.
 
+use second::calculation::{calculate, Declared};
 use second::machine::table::{Packet, Table};
 use second::machine::{passes_14, run, Ran};
 use second::records::Refused;
@@ -46,6 +47,16 @@ pub fn deliver(position: u16) -> Vec<u8> {
 
 pub fn refused(number: u64, place: u64) -> Option<Refused> {
     Some(Refused { number, place })
+}
+
+/// Numerators, denominators and binding places by session number.
+pub type Slices = [[u64; 32]; 3];
+
+/// The calculation of this input.
+pub fn calculated(input: &[u8]) -> Result<(Declared, Slices), Refused> {
+    let [mut nums, mut dens, mut places] = [[0; 32]; 3];
+    let declared = calculate(input, &mut nums, &mut dens, &mut places)?;
+    Ok((declared, [nums, dens, places]))
 }
 
 /// Whether no earlier packet has the same session, hop and direction (01, "Added here").

@@ -1,8 +1,7 @@
 //! The calculation against the direct test of max-min fairness (001, Definition 1): the rates are
 //! feasible, and each session has D or crosses a full link on which nobody has more.
 
-use crate::common::{link, session, Random};
-use second::calculation::calculate;
+use crate::common::{calculated, link, session, Random};
 
 /// A network as the test knows it, apart from its records.
 struct Network {
@@ -57,12 +56,16 @@ fn scaled(network: &Network, nums: &[u64], dens: &[u64]) -> Scaled {
     Scaled { unit, rates }
 }
 
-fn least_common_multiple(a: u128, b: u128) -> u128 {
+fn greatest_common_divisor(a: u128, b: u128) -> u128 {
     let (mut divisor, mut rest) = (a, b);
     while rest != 0 {
         (divisor, rest) = (rest, divisor % rest);
     }
-    a / divisor * b
+    divisor
+}
+
+fn least_common_multiple(a: u128, b: u128) -> u128 {
+    a / greatest_common_divisor(a, b) * b
 }
 
 // The rates of the sessions on a link.
@@ -78,9 +81,8 @@ fn rates_on<'a>(
 }
 
 fn check(network: &Network) {
-    let (mut nums, mut dens, mut places) = ([0; 32], [0; 32], [0; 32]);
-    let declared = calculate(&network.records(), &mut nums, &mut dens, &mut places);
-    let declared = declared.expect("the records are sound");
+    let (declared, [nums, dens, places]) =
+        calculated(&network.records()).expect("the records are sound");
     assert_eq!(
         declared.sessions.count_ones() as usize,
         network.sessions.len()
@@ -101,6 +103,8 @@ fn check(network: &Network) {
         let own_limit = one.own_limit() * scaled.unit;
         assert!(rate <= own_limit, "session {number} exceeds its D");
         assert!(dens[number] <= 118_098);
+        let common = greatest_common_divisor(u128::from(nums[number]), u128::from(dens[number]));
+        assert_eq!(common, 1, "session {number} is not in lowest terms");
         let full: Vec<u8> = one.path.iter().copied().filter(|&on| is_full(on)).collect();
         let highest_on = |on: u8| rates_on(network, &scaled, on).all(|other| other <= rate);
         let restricted = full.iter().any(|&on| highest_on(on));
@@ -202,8 +206,7 @@ fn the_finest_rates() {
     };
     assert_eq!(network.sessions.len(), 32);
     check(&network);
-    let (mut nums, mut dens, mut places) = ([0; 32], [0; 32], [0; 32]);
-    calculate(&network.records(), &mut nums, &mut dens, &mut places).unwrap();
+    let (_, [nums, dens, _]) = calculated(&network.records()).unwrap();
     assert_eq!((nums[0], dens[0]), (1, 2));
     // (19 - 1/2) / 3 = 37/6.
     assert_eq!((nums[2], dens[2]), (37, 6));
@@ -228,8 +231,7 @@ fn other_links_wait_for_their_round() {
         ],
     };
     check(&network);
-    let (mut nums, mut dens, mut places) = ([0; 32], [0; 32], [0; 32]);
-    calculate(&network.records(), &mut nums, &mut dens, &mut places).unwrap();
+    let (_, [nums, dens, places]) = calculated(&network.records()).unwrap();
     assert_eq!(nums[..3], [2, 2, 28]);
     assert_eq!(dens[..3], [1, 1, 1]);
     assert_eq!(places[..3], [0, 0, 1]);
@@ -249,8 +251,7 @@ fn first_full_link_in_path_order() {
         ],
     };
     check(&network);
-    let (mut nums, mut dens, mut places) = ([0; 32], [0; 32], [0; 32]);
-    calculate(&network.records(), &mut nums, &mut dens, &mut places).unwrap();
+    let (_, [nums, _, places]) = calculated(&network.records()).unwrap();
     // 4 / 2 = 2 each on link 1, and the 8 left of link 0.
     assert_eq!(nums[..3], [2, 8, 2]);
     assert_eq!(places[..3], [0, 0, 1]);

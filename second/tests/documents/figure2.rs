@@ -2,11 +2,11 @@
 //! worked out by hand.
 
 use crate::packets::{
-    delivered, handed, packet, response, sent_by, set_bottleneck, with_rate, Held, OWN,
+    delivered, handed, leaving, packet, response, sent_by, set_bottleneck, with_rate, Held, OWN,
 };
 use second::machine::table::{
-    BOTTLENECK, IDLE, JOIN, LEAVE, LEFT, NO, PROBE, TAU_BOTTLENECK, TAU_RESPONSE, TAU_UPDATE,
-    UPDATE, WAITING_PROBE, WAITING_RESPONSE, YES,
+    BOTTLENECK, IDLE, JOIN, LEAVE, NO, PROBE, TAU_BOTTLENECK, TAU_RESPONSE, TAU_UPDATE, UPDATE,
+    WAITING_PROBE, WAITING_RESPONSE, YES,
 };
 
 // Figure 2, lines 9 and 10, before line 16: the burst by rising number first, then the Join.
@@ -253,9 +253,7 @@ fn leave_at_a_link() {
         Held::R(IDLE, (3, 1)),
         Held::R(IDLE, (4, 1)),
     ];
-    let mut table = handed(16, &held);
-    table.sources[1].standing = LEFT;
-    let machine = delivered(table, packet(LEAVE, 1, 1));
+    let machine = delivered(leaving(16, &held, 1), packet(LEAVE, 1, 1));
     let expected = [
         packet(UPDATE, 0, 0),
         packet(UPDATE, 3, 0),
@@ -269,17 +267,15 @@ fn leave_at_a_link() {
 // A Leave of a member of F reads the same B: (12 - 2) / 1 = 10.
 #[test]
 fn leave_from_f() {
-    let mut table = handed(12, &[Held::R(IDLE, (10, 1)), Held::F(IDLE, (2, 1))]);
-    table.sources[1].standing = LEFT;
-    let sent = sent_by(table, packet(LEAVE, 1, 1));
+    let held = [Held::R(IDLE, (10, 1)), Held::F(IDLE, (2, 1))];
+    let sent = sent_by(leaving(12, &held, 1), packet(LEAVE, 1, 1));
     assert_eq!(sent, [packet(UPDATE, 0, 0), packet(LEAVE, 1, 2)]);
 }
 
 // 01, "Added here": a Leave is passed on even by a link without the entry, and updates nobody.
 #[test]
 fn leave_without_the_entry() {
-    let mut table = handed(12, &[Held::R(IDLE, (12, 1)), Held::Nowhere]);
-    table.sources[1].standing = LEFT;
+    let table = leaving(12, &[Held::R(IDLE, (12, 1)), Held::Nowhere], 1);
     let sent = sent_by(table.clone(), packet(LEAVE, 1, 1));
     assert_eq!(sent, [packet(LEAVE, 1, 2)]);
     // The destination takes it and sends nothing.

@@ -3,11 +3,11 @@
 
 use crate::common::{change, Machine};
 use crate::packets::{
-    delivered, handed, packet, response, sent_by, set_bottleneck, with_rate, Held, OWN,
+    delivered, handed, leaving, packet, response, sent_by, set_bottleneck, with_rate, Held, OWN,
 };
 use second::machine::table::{
-    Table, BOTTLENECK, IDLE, IN_F, IN_R, JOIN, LEFT, NO, PROBE, TAU_BOTTLENECK, TAU_RESPONSE,
-    TAU_UPDATE, UPDATE, WAITING_RESPONSE, YES,
+    Table, BOTTLENECK, IDLE, IN_F, IN_R, JOIN, NO, PROBE, TAU_BOTTLENECK, TAU_RESPONSE, TAU_UPDATE,
+    UPDATE, WAITING_RESPONSE, YES,
 };
 
 // 01, "Added here": any packet that reaches a source which has left is dropped.
@@ -19,8 +19,7 @@ fn dropped_at_a_source() {
         response(TAU_BOTTLENECK, 0, 0, (9, 1), 0),
     ];
     for dropped in kinds {
-        let mut table = handed(10, &[Held::Nowhere]);
-        table.sources[0].standing = LEFT;
+        let table = leaving(10, &[Held::Nowhere], 0);
         let machine = delivered(table.clone(), dropped);
         assert!(machine.table == table);
     }

@@ -1,20 +1,25 @@
 //! Refusal 12 where document 01 puts it: at every B and partial sum that a rule reads on its way, and
 //! at those that a step leaves behind.
 
-use crate::common::{deliver, Machine};
-use crate::packets::{handed, packet, set_bottleneck, with_rate, Held, OWN};
-use second::machine::table::{Packet, Table, IDLE, JOIN, LEAVE, LEFT, NO, WAITING_RESPONSE};
+use crate::common::deliver;
+use crate::packets::{
+    delivered, handed, leaving, packet, set_bottleneck, with_packet, with_rate, Held, OWN,
+};
+use second::machine::table::{Packet, Table, IDLE, JOIN, LEAVE, NO, WAITING_RESPONSE};
 
-fn refused_12(mut table: Table, packet: Packet) {
-    table.packets.push(packet);
-    Machine::with(table).refuse(deliver(0), 12);
+fn refused_12(table: Table, packet: Packet) {
+    with_packet(table, packet).refuse(deliver(0), 12);
 }
 
-fn accepted(mut table: Table, packet: Packet) -> Machine {
-    table.packets.push(packet);
-    let mut machine = Machine::with(table);
-    machine.take(deliver(0));
-    machine
+// With the finest rate held in F the Join of session 2 is refused. At half the fineness it is taken:
+// all three sessions are then in R, and the Join goes on with this rate.
+fn join_at_the_limit(capacity: u64, held: impl Fn(u64, u64) -> [Held; 3], rate: (u64, u64)) {
+    let join = with_rate(JOIN, 2, 1, (100, 1), OWN);
+    refused_12(handed(capacity, &held(1_048_575, 1_048_576)), join);
+    let machine = delivered(handed(capacity, &held(524_287, 524_288)), join);
+    assert_eq!(machine.table.links[0].r, 0b111);
+    let sent = machine.table.packets.last().unwrap();
+    assert_eq!((sent.kind, sent.num, sent.den), (JOIN, rate.0, rate.1));
 }
 
 // The Join's first B is (1/1,048,576) / 2. After the turn that it starts F would be empty and B 1/3,
@@ -28,13 +33,8 @@ fn a_b_before_a_turn_of_the_f_check() {
             Held::Nowhere,
         ]
     };
-    let join = with_rate(JOIN, 2, 1, (100, 1), OWN);
-    refused_12(handed(1, &held(1_048_575, 1_048_576)), join);
     // At half the fineness B is 1/1,048,576, the turn is made, and 1/3 goes on.
-    let machine = accepted(handed(1, &held(524_287, 524_288)), join);
-    assert_eq!(machine.table.links[0].r, 0b111);
-    let sent = machine.table.packets.last().unwrap();
-    assert_eq!((sent.kind, sent.num, sent.den), (JOIN, 1, 3));
+    join_at_the_limit(1, held, (1, 3));
 }
 
 // With x = 1,048,575/1,048,576 and the Join alone in R, B is 2 - 1 - x = 1/1,048,576. The 1 returns
@@ -49,12 +49,7 @@ fn a_b_between_two_turns() {
             Held::Nowhere,
         ]
     };
-    let join = with_rate(JOIN, 2, 1, (100, 1), OWN);
-    refused_12(handed(2, &held(1_048_575, 1_048_576)), join);
-    let machine = accepted(handed(2, &held(524_287, 524_288)), join);
-    assert_eq!(machine.table.links[0].r, 0b111);
-    let sent = machine.table.packets.last().unwrap();
-    assert_eq!((sent.kind, sent.num, sent.den), (JOIN, 2, 3));
+    join_at_the_limit(2, held, (2, 3));
 }
 
 // B = (10 - 1/524,288) / 2 is just fine enough; in F the 1/3 makes a sum over 1,572,864.
@@ -69,7 +64,7 @@ fn a_sum_after_a_move_to_f() {
     };
     refused_12(handed(10, &held(3)), set_bottleneck(1, 1, NO));
     // 1/2 adds nothing to the fineness of the sum, and B is (10 - 1/2 - 1/524,288) / 1.
-    let machine = accepted(handed(10, &held(2)), set_bottleneck(1, 1, NO));
+    let machine = delivered(handed(10, &held(2)), set_bottleneck(1, 1, NO));
     assert_eq!(machine.table.links[0].f, 0b011);
 }
 
@@ -81,13 +76,8 @@ fn a_sum_after_a_leave() {
         Held::F(IDLE, (2, 3)),
         Held::F(IDLE, (1, 1_048_576)),
     ];
-    let leaving = |session: usize| {
-        let mut table = handed(10, &held);
-        table.sources[session].standing = LEFT;
-        table
-    };
-    refused_12(leaving(1), packet(LEAVE, 1, 1));
-    let machine = accepted(leaving(2), packet(LEAVE, 2, 1));
+    refused_12(leaving(10, &held, 1), packet(LEAVE, 1, 1));
+    let machine = delivered(leaving(10, &held, 2), packet(LEAVE, 2, 1));
     assert_eq!(machine.table.links[0].f, 0b011);
 }
 
@@ -101,7 +91,5 @@ fn a_b_after_a_leave() {
         Held::R(WAITING_RESPONSE, (0, 1)),
         Held::R(WAITING_RESPONSE, (0, 1)),
     ];
-    let mut table = handed(1, &held);
-    table.sources[3].standing = LEFT;
-    refused_12(table, packet(LEAVE, 3, 1));
+    refused_12(leaving(1, &held, 3), packet(LEAVE, 3, 1));
 }

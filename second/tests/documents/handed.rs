@@ -45,3 +45,10 @@ pub fn damaged(damage: impl Fn(&mut Table)) -> Table {
     damage(&mut table);
     table
 }
+
+// Each damage alone makes the table fail this clause.
+pub fn each_fails(damages: &[fn(&mut Table)], fault: Fault) {
+    for damage in damages {
+        fails(damaged(damage), fault);
+    }
+}

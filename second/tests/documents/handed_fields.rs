@@ -2,7 +2,7 @@
 //! what is not looked at.
 
 use crate::common::{link, session, Machine};
-use crate::handed::{damaged, fails, sound};
+use crate::handed::{damaged, each_fails, fails, sound};
 use second::machine::table::{Packet, Table};
 use second::machine::{passes_14, settled, Fault};
 
@@ -19,9 +19,7 @@ fn fields_of_links_outside_their_range() {
         |table| table.links[0].entries[0].state = 3,
         |table| table.links[1].entries[0].state = 7,
     ];
-    for damage in damages {
-        fails(damaged(damage), Fault::FieldOutsideRange);
-    }
+    each_fails(&damages, Fault::FieldOutsideRange);
 }
 
 #[test]
@@ -46,9 +44,7 @@ fn fields_of_sources_outside_their_range() {
         |table| table.sources[2].access = 0,
         |table| table.sources[2].path[0] = 255,
     ];
-    for damage in damages {
-        fails(damaged(damage), Fault::FieldOutsideRange);
-    }
+    each_fails(&damages, Fault::FieldOutsideRange);
 }
 
 #[test]
@@ -65,9 +61,7 @@ fn fields_of_packets_outside_their_range() {
         // Also where the kind does not use the field: the first packet is a Leave.
         |table| table.packets[0].named = 65,
     ];
-    for damage in damages {
-        fails(damaged(damage), Fault::FieldOutsideRange);
-    }
+    each_fails(&damages, Fault::FieldOutsideRange);
 }
 
 #[test]

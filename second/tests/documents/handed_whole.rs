@@ -1,10 +1,10 @@
 //! Refusal 14, the clauses on paths, packets, entries and sums.
 
 use crate::common::{deliver, Machine};
-use crate::handed::{damaged, fails};
+use crate::handed::{damaged, each_fails, fails};
+use crate::packets::{holding, Held};
 use second::machine::table::{
-    Packet, Table, BOTTLENECK, DOWN, IDLE, JOIN, LEAVE, PROBE, RESPONSE, SET_BOTTLENECK, UP,
-    UPDATE, YES,
+    Packet, Table, BOTTLENECK, DOWN, IDLE, JOIN, LEAVE, PROBE, RESPONSE, SET_BOTTLENECK, UP, UPDATE,
 };
 use second::machine::{passes_14, Fault};
 
@@ -47,9 +47,7 @@ fn packet_off_its_path() {
         |table| table.packets[1].session = 9,
         |table| table.packets[0].hop = 9,
     ];
-    for damage in damages {
-        fails(damaged(damage), Fault::PacketOffItsPath);
-    }
+    each_fails(&damages, Fault::PacketOffItsPath);
 }
 
 #[test]
@@ -101,85 +99,56 @@ fn entry_of_a_gone_session() {
     assert_eq!(passes_14(&table), Ok(()));
 }
 
-// Sessions 0 to 2 over link 0 of this capacity, at first nowhere held.
-fn three_sessions(capacity: u64) -> Table {
-    let mut table = Table::empty();
-    table.links[0].declared = YES;
-    table.links[0].capacity = capacity;
-    for source in &mut table.sources[..3] {
-        source.standing = 1;
-        source.access = 100;
-        source.length = 1;
-        source.path[0] = 0;
-    }
-    table
-}
-
-fn put(table: &mut Table, held: usize, (num, den): (u64, u64)) {
-    let entry = &mut table.links[0].entries[held];
-    (entry.state, entry.num, entry.den) = (IDLE, num, den);
-}
-
 #[test]
 fn sum_past_capacity() {
-    let mut table = three_sessions(10);
-    table.links[0].f = 0b11;
-    put(&mut table, 0, (5, 1));
-    put(&mut table, 1, (5, 1));
-    assert_eq!(passes_14(&table), Ok(()));
-    put(&mut table, 1, (16, 3));
-    fails(table, Fault::SumPastCapacity);
+    let table = |rate| {
+        let held = [Held::F(IDLE, (5, 1)), Held::F(IDLE, rate), Held::Nowhere];
+        holding(10, &held)
+    };
+    assert_eq!(passes_14(&table((5, 1))), Ok(()));
+    fails(table((16, 3)), Fault::SumPastCapacity);
 }
 
 // Members of R may have any rate: only F is summed.
 #[test]
 fn rates_in_r_do_not_count() {
-    let mut table = three_sessions(10);
-    table.links[0].r = 0b11;
-    put(&mut table, 0, (1_000_000, 1));
-    put(&mut table, 1, (1, 1_048_576));
-    assert_eq!(passes_14(&table), Ok(()));
+    let held = [
+        Held::R(IDLE, (1_000_000, 1)),
+        Held::R(IDLE, (1, 1_048_576)),
+        Held::Nowhere,
+    ];
+    assert_eq!(passes_14(&holding(10, &held)), Ok(()));
 }
 
 // 1/1,048,576 + 1/3 has a denominator of 3,145,728; adding 2/3 makes a sum that is fine again, but
 // the partial sum by rising session number is not.
 #[test]
 fn partial_sums_too_fine() {
-    let mut table = three_sessions(10);
-    table.links[0].f = 0b011;
-    put(&mut table, 0, (1, 1_048_576));
-    put(&mut table, 1, (1, 3));
-    fails(table.clone(), Fault::SumsTooFine);
-    put(&mut table, 2, (2, 3));
-    table.links[0].f = 0b111;
-    fails(table.clone(), Fault::SumsTooFine);
+    let finest = || Held::F(IDLE, (1, 1_048_576));
+    let thirds = |num| Held::F(IDLE, (num, 3));
+    let table = holding(10, &[finest(), thirds(1), Held::Nowhere]);
+    fails(table, Fault::SumsTooFine);
+    let table = holding(10, &[finest(), thirds(1), thirds(2)]);
+    fails(table, Fault::SumsTooFine);
     // 1/3 + 2/3 = 1 first, and then 1 + 1/1,048,576.
-    put(&mut table, 0, (1, 3));
-    put(&mut table, 1, (2, 3));
-    put(&mut table, 2, (1, 1_048_576));
+    let table = holding(10, &[thirds(1), thirds(2), finest()]);
     assert_eq!(passes_14(&table), Ok(()));
 }
 
 // B = (1 - 1/1,048,576) / 2.
 #[test]
 fn b_too_fine() {
-    let mut table = three_sessions(1);
-    table.links[0].f = 0b001;
-    put(&mut table, 0, (1, 1_048_576));
-    table.links[0].r = 0b010;
-    assert_eq!(passes_14(&table), Ok(()));
-    table.links[0].r = 0b110;
-    fails(table, Fault::SumsTooFine);
+    let table = |third| {
+        let finest = Held::F(IDLE, (1, 1_048_576));
+        holding(1, &[finest, Held::R(IDLE, (0, 1)), third])
+    };
+    assert_eq!(passes_14(&table(Held::Nowhere)), Ok(()));
+    fails(table(Held::R(IDLE, (0, 1))), Fault::SumsTooFine);
 }
 
 // 12 is tested before 13: the Join makes B too fine, and with its Update one packet too many.
 #[test]
 fn twelve_before_thirteen() {
-    let mut table = three_sessions(1);
-    table.links[0].f = 0b001;
-    put(&mut table, 0, (1, 1_048_576));
-    table.links[0].r = 0b010;
-    put(&mut table, 1, (1_048_575, 1_048_576));
     let join = Packet {
         kind: JOIN,
         session: 2,
@@ -188,12 +157,14 @@ fn twelve_before_thirteen() {
         num: 100,
         ..Packet::BLANK
     };
-    table.packets = vec![Packet::BLANK; 255];
-    table.packets.insert(0, join);
-    let mut machine = Machine::with(table.clone());
-    machine.refuse(deliver(0), 12);
+    let machine = |rate| {
+        let above = Held::R(IDLE, (1_048_575, 1_048_576));
+        let mut table = holding(1, &[Held::F(IDLE, rate), above, Held::Nowhere]);
+        table.packets = vec![Packet::BLANK; 255];
+        table.packets.insert(0, join);
+        Machine::with(table)
+    };
+    machine((1, 1_048_576)).refuse(deliver(0), 12);
     // With a coarse rate in F the same delivery meets 13: B = 1/2, and session 1 is above it.
-    put(&mut table, 0, (0, 1));
-    let mut machine = Machine::with(table);
-    machine.refuse(deliver(0), 13);
+    machine((0, 1)).refuse(deliver(0), 13);
 }

@@ -3,7 +3,7 @@
 use crate::common::{deliver, Machine};
 use second::machine::passes_14;
 use second::machine::table::{
-    Packet, Table, ACTIVE, DOWN, JOIN, LEAVE, PROBE, RESPONSE, SET_BOTTLENECK, UP, YES,
+    Packet, Table, ACTIVE, DOWN, JOIN, LEAVE, LEFT, PROBE, RESPONSE, SET_BOTTLENECK, UP, YES,
 };
 
 pub const OWN: u64 = 64;
@@ -52,7 +52,7 @@ pub enum Held {
     Nowhere,
 }
 
-pub fn handed(capacity: u64, held: &[Held]) -> Table {
+pub fn holding(capacity: u64, held: &[Held]) -> Table {
     let mut table = Table::empty();
     table.links[0].declared = YES;
     table.links[0].capacity = capacity;
@@ -72,7 +72,20 @@ pub fn handed(capacity: u64, held: &[Held]) -> Table {
         link.entries[number].state = state;
         (link.entries[number].num, link.entries[number].den) = rate;
     }
+    table
+}
+
+// Such a table that passes 14.
+pub fn handed(capacity: u64, held: &[Held]) -> Table {
+    let table = holding(capacity, held);
     assert_eq!(passes_14(&table), Ok(()));
+    table
+}
+
+// Such a table, which this session has then left.
+pub fn leaving(capacity: u64, held: &[Held], session: usize) -> Table {
+    let mut table = handed(capacity, held);
+    table.sources[session].standing = LEFT;
     table
 }
 

@@ -1,17 +1,18 @@
 //! Random runs. After each record: a refusal left the table as it was, the table passes 14, a quiet
 //! table is settled, and a settled one has the rates of the direct calculation.
 
-use crate::common::{is_in_turn, link, session, Machine, Random};
+use crate::common::{calculated, is_in_turn, link, session, Machine, Random};
 use crate::world::{world, World};
-use second::calculation::calculate;
 use second::machine::table::{Table, ACTIVE, JOIN, RESPONSE, WAITING_RESPONSE, YES};
 use second::machine::{passes_14, run, settled, Ran};
+use std::ops::Range;
 
 #[derive(Default)]
 pub struct Seen {
     taken: usize,
     quiet: usize,
     ended: usize,
+    in_one_run: usize,
     sessions_settled: usize,
     refused: [usize; 16],
 }
@@ -94,9 +95,7 @@ fn records_of(table: &Table) -> Vec<u8> {
 // Demand 3 of the order: the rates in a settled table are those of the direct calculation, at the
 // source, at every link of the path, and as last told. Returns how many sessions there are.
 fn check_rates(table: &Table) -> usize {
-    let (mut nums, mut dens, mut places) = ([0; 32], [0; 32], [0; 32]);
-    let input = records_of(table);
-    let declared = calculate(&input, &mut nums, &mut dens, &mut places).unwrap();
+    let (declared, [nums, dens, _]) = calculated(&records_of(table)).unwrap();
     for (number, source) in table.sources.iter().enumerate() {
         let is_active = source.standing == ACTIVE;
         assert_eq!(declared.sessions >> number & 1 == 1, is_active);
@@ -143,8 +142,9 @@ pub fn random_run(world: &mut World, events: usize, seen: &mut Seen) -> Machine 
     machine
 }
 
-// All the records taken, in one run from an empty table, give the same table.
-fn check_in_one_run(machine: &Machine) {
+// All the records taken, in one run from an empty table, give the same table. More than 32,768 bytes
+// are not taken in one run; the runs that were checked are counted.
+fn check_in_one_run(machine: &Machine, seen: &mut Seen) {
     if machine.bytes.len() > 32_768 {
         return;
     }
@@ -152,18 +152,30 @@ fn check_in_one_run(machine: &Machine) {
     let ran = run(&mut table, &machine.bytes);
     assert_eq!(ran.refused, None);
     assert!(table == machine.table);
+    seen.in_one_run += 1;
+}
+
+// One run for each seed, in a world of this many links and sessions, with this many events.
+fn runs(seeds: Range<u64>, links: usize, sessions: usize, events: usize) -> Seen {
+    let mut seen = Seen::default();
+    for seed in seeds {
+        let mut world = world(Random::new(seed), links, sessions);
+        let machine = random_run(&mut world, events, &mut seen);
+        check_in_one_run(&machine, &mut seen);
+    }
+    seen
 }
 
 #[test]
 fn small_worlds() {
-    let mut seen = Seen::default();
-    for seed in 0..4_000 {
-        let mut world = world(Random::new(1_000 + seed), 4, 5);
-        let machine = random_run(&mut world, 60, &mut seen);
-        check_in_one_run(&machine);
-    }
+    let seen = runs(1_000..5_000, 4, 5, 60);
     // The checks were reached: settled tables with sessions, and the refusals that such runs meet.
     assert!(seen.ended > 3_900, "{} runs came to rest", seen.ended);
+    assert!(
+        seen.in_one_run > 3_900,
+        "{} checked in one run",
+        seen.in_one_run
+    );
     assert!(seen.quiet > 10_000, "{} quiet tables", seen.quiet);
     assert!(seen.sessions_settled > 10_000);
     for number in [2, 3, 4, 5, 6, 7, 8, 9, 10, 11] {
@@ -173,13 +185,13 @@ fn small_worlds() {
 
 #[test]
 fn worlds_of_many_sessions() {
-    let mut seen = Seen::default();
-    for seed in 0..150 {
-        let mut world = world(Random::new(2_000 + seed), 10, 32);
-        let machine = random_run(&mut world, 250, &mut seen);
-        check_in_one_run(&machine);
-    }
+    let seen = runs(2_000..2_150, 10, 32, 250);
     assert!(seen.ended > 140, "{} runs came to rest", seen.ended);
+    assert!(
+        seen.in_one_run > 140,
+        "{} checked in one run",
+        seen.in_one_run
+    );
     assert!(seen.sessions_settled > 1_000);
     assert!(seen.taken > 150 * 250);
 }
@@ -200,9 +212,7 @@ fn any_bytes_end() {
         let Ran { taken, refused } = run(&mut table, &bytes);
         assert!(taken > 0 || refused.is_some() || bytes.is_empty());
         assert_eq!(passes_14(&table), Ok(()));
-        let (mut nums, mut dens, mut places) = ([0; 32], [0; 32], [0; 32]);
-        let calculated = calculate(&bytes, &mut nums, &mut dens, &mut places);
         // The calculation takes fewer kinds, so it never goes further than the machine.
-        assert!(calculated.is_err() || refused.is_none());
+        assert!(calculated(&bytes).is_err() || refused.is_none());
     }
 }

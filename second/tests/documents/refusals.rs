@@ -92,14 +92,18 @@ fn nine_not_active() {
 }
 
 // A number joins again only when the last of its packets is gone; here the Join and the Leave each
-// pass one link and the destination, and the Join's Response comes back to a source that has left.
+// pass one link and the destination, and the Join's Response is dropped at the link, which the Leave
+// has passed: five deliveries.
 #[test]
 fn ten_still_in_flight() {
     let mut machine = taken(&[link(0, 10), plain_session(0, &[0]), leave(0)]);
+    let mut deliveries = 0;
     while !machine.table.packets.is_empty() {
         machine.refuse(plain_session(0, &[0]), 10);
         machine.take(deliver(0));
+        deliveries += 1;
     }
+    assert_eq!(deliveries, 5);
     machine.take(plain_session(0, &[0]));
 }
 

@@ -3,10 +3,20 @@
 use crate::common::{at_rest, deliver, leave, link, plain_session, session, taken, Machine};
 use crate::packets::{handed, packet, response, set_bottleneck, with_rate, Held, OWN};
 use second::machine::table::{
-    IN_F, IN_R, JOIN, LEAVE, LEFT, NO, RESPONSE, SET_BOTTLENECK, TAU_BOTTLENECK, TAU_RESPONSE,
-    WAITING_PROBE, YES,
+    Packet, IN_F, IN_R, JOIN, LEAVE, LEFT, NO, RESPONSE, SET_BOTTLENECK, TAU_BOTTLENECK,
+    TAU_RESPONSE, WAITING_PROBE, YES,
 };
 use second::machine::{passes_14, settled, Fault};
+
+// Delivers these packets one by one, each alone in flight, the first before any delivery and every
+// other after the delivery of the one before; after the last one none is left.
+fn goes(machine: &mut Machine, expected: [Packet; 6]) {
+    for packet in expected {
+        assert_eq!(machine.table.packets, [packet]);
+        machine.take(deliver(0));
+    }
+    assert_eq!(machine.table.packets, []);
+}
 
 // The six steps of P2, each with what it sends (Figures 2 to 4, all three tasks).
 #[test]
@@ -20,11 +30,7 @@ fn p2_step_by_step() {
         set_bottleneck(0, 1, NO),
         set_bottleneck(0, 2, YES),
     ];
-    for packet in expected {
-        assert_eq!(machine.table.packets, [packet]);
-        machine.take(deliver(0));
-    }
-    assert_eq!(machine.table.packets, []);
+    goes(&mut machine, expected);
     // D = 100 is above the rate, so the source has its session in F (Figure 3, line 41).
     assert_eq!(machine.table.sources[0].set, IN_F);
 }
@@ -41,11 +47,7 @@ fn p3_step_by_step() {
         set_bottleneck(0, 1, YES),
         set_bottleneck(0, 2, YES),
     ];
-    for packet in expected {
-        assert_eq!(machine.table.packets, [packet]);
-        machine.take(deliver(0));
-    }
-    assert_eq!(machine.table.packets, []);
+    goes(&mut machine, expected);
     assert_eq!(machine.table.sources[0].set, IN_R);
 }
 
