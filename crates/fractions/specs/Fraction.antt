@@ -46,6 +46,12 @@ pub record Within (m : ℕ) (a : Rate) : Type 0 where
   pub den : a .den ≤ maxDen
   pub num : a .num ≤ m * a .den
 
+-- what comparisons and sums need of a number pair: a value of at most m, over a denominator within the limit
+pub record Sized (m : ℕ) (a : Rate) : Type 0 where
+  pub pos : 0 < a .den
+  pub den : a .den ≤ maxDen
+  pub num : a .num ≤ m * a .den
+
 -- the largest value that comparisons and sums take: room for some rates together, and their products still fit 64 bits
 abbrev pub limit : ℕ
 limit = 4000000
@@ -53,6 +59,13 @@ limit = 4000000
 -- 01, refusal 14: the test of a rate that is handed in, "0 to 1,000,000, denominator to 1,048,576", and in lowest terms
 unfoldable pub isRateOf : Rate → Bool
 isRateOf a = ltb 0 (a .den) && (leb (a .den) maxDen && (leb (a .num) (maxRate * a .den) && eqb (gcdOf (a .num) (a .den)) 1))
+
+-- the same but for lowest terms: what n and d stand for where a rate is kept as two numbers
+unfoldable pub sizedOf : ℕ → ℕ → Bool
+sizedOf n d = ltb 0 d && (leb d maxDen && leb n (maxRate * d))
+
+unfoldable pub keptOf : ℕ → ℕ → Rate
+keptOf n d = cond (sizedOf n d) (frac n d) zeroOf
 
 -- THE VALUES COMPARED -------------------------------------------------------------------------------------------------
 

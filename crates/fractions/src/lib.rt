@@ -2,7 +2,7 @@
 ghost use mathlib.Core.Path.{_≡_};
 ghost use Prim.Native.Nat.{ℕ, _*_, _≤_, _<_};
 ghost use Rattle.fractions.specs.Divisor.{IsGcd};
-ghost use Rattle.fractions.specs.Fraction.{Within, limit, maxDen, maxRate, isRateOf, leOf, ltOf, sameOf, zeroOf, wholeOf, lowestOf, fineOf, plusOf, leftOf, amongOf, shareOf};
+ghost use Rattle.fractions.specs.Fraction.{Sized, limit, maxDen, maxRate, isRateOf, keptOf, leOf, ltOf, sameOf, zeroOf, wholeOf, lowestOf, fineOf, plusOf, leftOf, amongOf, shareOf};
 
 // A rate in kbit/s.
 pub struct Rate {
@@ -90,9 +90,25 @@ impl Rate {
         g == 1
     }
 
+    // The rate that is kept as two numbers, or 0/1 where they are none within the limits. Lowest terms are not looked at.
+    pub fn kept(n: u64, d: u64) -> Rate
+        ensures { λ r. ⌜ r ≡ keptOf n d ⌝ }
+    {
+        if d == 0 {
+            return Rate::ZERO;
+        }
+        if Rate::MAX_DEN < d {
+            return Rate::ZERO;
+        }
+        if Rate::MAX * d < n {
+            return Rate::ZERO;
+        }
+        Rate { num: n, den: d }
+    }
+
     // No greater than b.
     pub fn le(self, b: Rate) -> bool
-        requires { ⌜ Within limit self × Within limit b ⌝ }
+        requires { ⌜ Sized limit self × Sized limit b ⌝ }
         ensures { λ r. ⌜ r ≡ leOf self b ⌝ }
     {
         let n = self.num;
@@ -106,7 +122,7 @@ impl Rate {
 
     // Less than b.
     pub fn lt(self, b: Rate) -> bool
-        requires { ⌜ Within limit self × Within limit b ⌝ }
+        requires { ⌜ Sized limit self × Sized limit b ⌝ }
         ensures { λ r. ⌜ r ≡ ltOf self b ⌝ }
     {
         let n = self.num;
@@ -120,7 +136,7 @@ impl Rate {
 
     // Equal to b.
     pub fn same(self, b: Rate) -> bool
-        requires { ⌜ Within limit self × Within limit b ⌝ }
+        requires { ⌜ Sized limit self × Sized limit b ⌝ }
         ensures { λ r. ⌜ r ≡ sameOf self b ⌝ }
     {
         let n = self.num;
@@ -142,7 +158,7 @@ impl Rate {
 
     // The sum with b.
     pub fn plus(self, b: Rate) -> Sum
-        requires { ⌜ Within limit self × Within limit b ⌝ }
+        requires { ⌜ Sized limit self × Sized limit b ⌝ }
         ensures { λ r. ⌜ r ≡ plusOf self b ⌝ }
     {
         let n = self.num;
@@ -162,7 +178,7 @@ impl Rate {
 
     // A link's share: what is left of its capacity when what is taken is gone, for each of count sessions.
     pub fn share(capacity: u64, taken: Rate, count: u64) -> Share
-        requires { ⌜ Within maxRate taken × (capacity ≤ maxRate) × (taken .num ≤ capacity * taken .den) × (0 < count) × (count ≤ 32) ⌝ }
+        requires { ⌜ Sized maxRate taken × (capacity ≤ maxRate) × (taken .num ≤ capacity * taken .den) × (0 < count) × (count ≤ 32) ⌝ }
         ensures { λ r. ⌜ r ≡ shareOf capacity taken count ⌝ }
     {
         let each = Part::left(capacity, taken).among(count);

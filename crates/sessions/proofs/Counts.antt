@@ -58,3 +58,9 @@ ones-mono (suc k) v w a b h =
       h 0 (omega arith),
       ones-mono k (v / 2) (w / 2) (omega (arith, pow-suc 2 k)) (omega (arith, pow-suc 2 k)) (λ s l. h (suc s) (omega arith)),
     )
+
+-- no more than the digits
+pub count-most : (k w : ℕ) → onesIn k w ≤ k
+unfolding onesIn
+count-most zero w = omega arith
+count-most (suc k) w = omega (arith, count-most k (w / 2))

@@ -172,3 +172,21 @@ module _ {S : Type 0} (f g : S → ℕ → S) where
   pub walk-cong : (k w : ℕ) → ((j : ℕ) → j < k → has j w ≡ 1 → (a : S) → f a j ≡ g a j) → (a : S)
       → walk f a (membersFrom k 0 w) ≡ walk g a (membersFrom k 0 w)
   walk-cong k w h a = walk-cong-from k 0 w (λ j l m a. subst (λ (n : ℕ). f a n ≡ g a n) (omega arith) (h j l m a)) a
+
+-- what every step keeps, a loop keeps
+module _ {S : Type 0} (P : S → Type 0) (step : S → ℕ → S) where
+  walk-keeps-from : (k b w : ℕ) → ((a : S) (j : ℕ) → j < k → P a → P (step a (b + j))) → (a : S) → P a → P (walk step a (membersFrom k b w))
+  unfolding walk membersFrom
+  walk-keeps-from zero b w h a p = p
+  walk-keeps-from (suc k) b w h a p =
+      let more : (a : S) (j : ℕ) → j < k → P a → P (step a (suc b + j)) =
+      λ a j l q. subst (λ (n : ℕ). P (step a n)) (omega arith) (h a (suc j) (omega arith) q) in
+      ⊎-elim
+      (λ e. rw (members-even k b w (w / 2) e refl) (walk-keeps-from k (suc b) (w / 2) more a p))
+      (λ e.
+      rw (members-odd k b w (w / 2) e refl)
+      (walk-keeps-from k (suc b) (w / 2) more (step a b) (subst (λ (n : ℕ). P (step a n)) (omega arith) (h a 0 (omega arith) p))))
+      (two w)
+
+  pub walk-keeps : (k w : ℕ) → ((a : S) (j : ℕ) → j < k → P a → P (step a j)) → (a : S) → P a → P (walk step a (membersFrom k 0 w))
+  walk-keeps k w h a p = walk-keeps-from k 0 w (λ a j l q. subst (λ (n : ℕ). P (step a n)) (omega arith) (h a j l q)) a p

@@ -28,7 +28,7 @@ add-lowest : tie.Need-add-lowest
 add-lowest c = omega (arith, cross-fits (c .pre .0) (c .pre .1), cross-fits (c .pre .1) (c .pre .0))
 
 lowest-requires : tie.Need-lowest-requires
-lowest-requires c κs = mul-pos (c .pre .0 .lowest .pos) (c .pre .1 .lowest .pos)
+lowest-requires c κs = mul-pos (c .pre .0 .pos) (c .pre .1 .pos)
 
 is-fine-requires : tie.Need-is-fine-requires
 is-fine-requires c κs = search needs

@@ -29,7 +29,7 @@ among-requires : tie.Need-among-requires
 among-requires c κs = let e = c .left .ensures in (subst (λ (p : Part). p .den ≤ maxDen) (sym e) (omega arith), c .before .pre .4)
 
 lowest-requires : tie.Need-lowest-requires
-lowest-requires c κs = subst (λ (p : Part). 0 < p .den) (sym (part c)) (mul-pos (c .before .before .pre .0 .lowest .pos) (c .before .before .pre .3))
+lowest-requires c κs = subst (λ (p : Part). 0 < p .den) (sym (part c)) (mul-pos (c .before .before .pre .0 .pos) (c .before .before .pre .3))
 
 is-fine-requires : tie.Need-is-fine-requires
 is-fine-requires c κs = search needs

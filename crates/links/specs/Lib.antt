@@ -1,0 +1,3 @@
+-- The definitions that the contracts of links cite.
+pub mod Links
+pub mod FCheck
