@@ -9,9 +9,10 @@ use native.Mathlib.Omega.{arith}
 use Rattle.links.specs.declared.Bound.{Bound}
 use Rattle.links.specs.declared.Checked.{Checked}
 use Rattle.links.specs.declared.Place.{Place}
+use Rattle.links.specs.declared.Processed.{Processed}
 use Rattle.links.specs.declared.Wanted.the-variants as wanted
-use Rattle.links.specs.FCheck.{checkOf, checkedOf, turnOf}
-use Rattle.links.specs.Links.{B, F, someOf, thoseOf}
+use Rattle.links.specs.FCheck.{checkOf, checkedOf, processOf, turnOf}
+use Rattle.links.specs.Links.{B, F, R, someOf, thoseOf, waitingOf}
 
 fuel : (n : ℕ) → n < 32 → 32 - n ≡ suc (32 - (n + 1))
 fuel n h = omega arith
@@ -47,3 +48,18 @@ with-bound q b = record { place = q; bound = b }
 
 pub checked-is : (p q : Place) (b : Bound) → b ≡ B q → q ≡ checkOf 32 p → with-bound q b ≡ checkedOf (checkOf 32 p)
 checked-is p q b e f = ap (with-bound q) e ∙ ap checkedOf f
+
+-- the whole of ProcessNewRestricted
+abbrev processed : Place → ℕ → Bound → Processed
+processed q w b = record { place = q; to = w; bound = b }
+
+abbrev above-in : Checked → ℕ
+above-in q = thoseOf (wanted.IdleAbove (q .bound)) (q .place .entries) (R (q .place))
+
+pub processed-is : (p q : Place) (b : Bound) (w : ℕ) (r : Place) → with-bound q b ≡ checkedOf (checkOf 32 p) → w ≡ above-in (with-bound q b) → r ≡ waitingOf q w
+    → processed r w b ≡ processOf p
+unfolding processOf
+processed-is p q b w r e f g =
+    ap (λ (x : Place). processed x w b) g
+    ∙ (ap (λ (v : ℕ). processed (waitingOf q v) v b) f
+    ∙ ap (λ (x : Checked). processed (waitingOf (x .place) (above-in x)) (above-in x) (x .bound)) e)

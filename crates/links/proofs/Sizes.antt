@@ -32,7 +32,7 @@ use Rattle.links.specs.declared.Place.{Place}
 use Rattle.links.specs.declared.Total.{Total}
 use Rattle.links.specs.declared.Total.the-variants as total
 use Rattle.links.specs.declared.Wanted.the-variants as wanted
-use Rattle.links.specs.FCheck.{checkOf, higherOf, highestOf, turnOf}
+use Rattle.links.specs.FCheck.{checkOf, higherOf, highestOf, processOf, turnOf}
 use Rattle.links.specs.Links.{
   B,
   BoundSized,
@@ -53,6 +53,8 @@ use Rattle.links.specs.Links.{
   waitIn,
   waitingOf,
   withEntry,
+  withMu,
+  withWords,
 }
 
 -- what holds of a rate within its range holds within the limit of comparisons
@@ -166,3 +168,19 @@ unfolding checkOf
 check-workable zero p o = o
 check-workable (suc k) p o =
     cases Workable (someOf (wanted.AtLeast (B p)) (p .entries) (F p)) (checkOf k (turnOf p)) p (λ e. check-workable k (turnOf p) (turn-workable p o)) (λ e. o)
+
+-- A LINK AFTER A CHANGE -----------------------------------------------------------------------------------------------
+
+pub workable-words : (p : Place) (r f : ℕ) → Workable p → Workable (withWords p r f)
+workable-words p r f o = record { capacity = o .capacity; rates = o .rates }
+
+pub workable-entry : (p : Place) (s : ℕ) (x : Entry) → Workable p → Sized maxRate (x .rate) → Workable (withEntry p s x)
+workable-entry p s x o h = record { capacity = o .capacity; rates = rates-set (p .entries) s x (o .rates) h }
+
+pub workable-mu : (p : Place) (s : ℕ) (m : Mu) → s < 32 → Workable p → Workable (withMu p s m)
+workable-mu p s m l o = record { capacity = o .capacity; rates = rates-mu (p .entries) s m l (o .rates) }
+
+-- B after ProcessNewRestricted
+pub process-sized : (p : Place) → Workable p → BoundSized (processOf p .bound)
+unfolding processOf
+process-sized p o = B-sized (checkOf 32 p) (check-workable 32 p o)

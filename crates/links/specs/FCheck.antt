@@ -1,4 +1,4 @@
--- 001, Figure 2, lines 4 to 8: the F check of ProcessNewRestricted. p is the link with its entries.
+-- 001, Figure 2, lines 4 to 10: the procedure ProcessNewRestricted, and the F check in it. p is the link with its entries.
 -- Assumes nothing: definitions.
 use mathlib.Core.Bool.{cond}
 use Prim.Native.Nat.{ℕ, zero, suc}
@@ -8,8 +8,9 @@ use Rattle.fractions.specs.Fraction.{leOf, zeroOf}
 use Rattle.sessions.specs.Set.{members, walk}
 use Rattle.links.specs.declared.Checked.{Checked}
 use Rattle.links.specs.declared.Place.{Place}
+use Rattle.links.specs.declared.Processed.{Processed}
 use Rattle.links.specs.declared.Wanted.the-variants as wanted
-use Rattle.links.specs.Links.{B, F, R, rateAt, someOf, thoseOf, withWords}
+use Rattle.links.specs.Links.{B, F, R, rateAt, someOf, thoseOf, waitingOf, withWords}
 
 abbrev pub higherOf : Rate → Rate → Rate
 higherOf a b = cond (leOf a b) b a
@@ -32,3 +33,13 @@ checkOf (suc k) p = cond (someOf (wanted.AtLeast (B p)) (p .entries) (F p)) (che
 -- a link that the check leaves, with its B
 abbrev pub checkedOf : Place → Checked
 checkedOf q = record { place = q; bound = B q }
+
+-- line 9: {s ∈ R : μ_s = IDLE ∧ λ_s > B}
+abbrev pub overB : Place → ℕ
+overB p = thoseOf (wanted.IdleAbove (B p)) (p .entries) (R p)
+
+-- ProcessNewRestricted, lines 5 to 10: the link after it, the sessions that are sent an Update, and its B, which lines 9 and 10 do not change
+unfoldable pub processOf : Place → Processed
+processOf p =
+    let q = checkOf 32 p in  -- 5 to 8
+    record { place = waitingOf q (overB q); to = overB q; bound = B q }  -- 9, 10

@@ -1,5 +1,5 @@
 -- A link with its entries: its words R and F, the sum of F, its rate B, comparisons with B, and sets of its sessions.
--- Follows 001, sections III and IV, and 01, "The tasks".
+-- Follows 001, section III, and 01, "The tasks".
 -- Assumes nothing: definitions.
 use mathlib.Core.Bool.{Bool, cond, false, not, true, _&&_, _||_}
 use mathlib.Core.List.{List}
@@ -13,11 +13,10 @@ use Rattle.fractions.specs.declared.Share.the-variants as share
 use Rattle.fractions.specs.declared.Sum.{Sum}
 use Rattle.fractions.specs.declared.Sum.the-variants as sum
 use Rattle.fractions.specs.Fraction.{Sized, frac, leOf, limit, ltOf, maxRate, plusOf, sameOf, shareOf, wholeOf, zeroOf}
-use Rattle.sessions.specs.Set.{cut, hasOf, members, put, sizeOf, walk}
+use Rattle.sessions.specs.Set.{hasOf, members, put, sizeOf, walk}
 use Rattle.links.specs.declared.Bound.{Bound}
 use Rattle.links.specs.declared.Bound.the-variants as bound
 use Rattle.links.specs.declared.Entry.{Entry}
-use Rattle.links.specs.declared.Link.{Link}
 use Rattle.links.specs.declared.Mu.{Mu}
 use Rattle.links.specs.declared.Mu.the-variants as mu
 use Rattle.links.specs.declared.Place.{Place}
@@ -26,7 +25,7 @@ use Rattle.links.specs.declared.Total.the-variants as total
 use Rattle.links.specs.declared.Wanted.{Wanted}
 use Rattle.links.specs.declared.Wanted.the-variants as wanted
 
--- what an index past the end reads
+-- what an index past the end reads: no session has it
 abbrev pub noEntry : Entry
 noEntry = record { mu = mu.Idle; rate = frac 0 0 }
 
@@ -34,6 +33,7 @@ noEntry = record { mu = mu.Idle; rate = frac 0 0 }
 abbrev pub entry : Mu → Rate → Entry
 entry m x = record { mu = m; rate = x }
 
+-- the words R and F, and the entry of session s
 abbrev pub R : Place → ℕ
 R p = p .link .r
 
@@ -50,6 +50,7 @@ rateAt p s = entryAt p s .rate
 abbrev pub muAt : Place → ℕ → Mu
 muAt p s = entryAt p s .mu
 
+-- μ = IDLE, μ = WAITING_RESPONSE
 abbrev pub isIdle : Mu → Bool
 isIdle mu.Idle = true
 isIdle mu.WaitingProbe = false
@@ -60,6 +61,7 @@ awaitsResponse mu.Idle = false
 awaitsResponse mu.WaitingProbe = false
 awaitsResponse mu.WaitingResponse = true
 
+-- s ∈ R, s ∈ F
 abbrev pub inR : Place → ℕ → Bool
 inR p s = hasOf s (R p)
 
@@ -106,7 +108,7 @@ boundOf c (suc k) total.PastC = bound.At zeroOf
 unfoldable pub B : Place → Bound
 B p = boundOf (p .link .capacity) (sizeOf (R p)) (sumOf p)
 
--- refusal 12: neither a partial sum nor B has a denominator over the limit
+-- refusal 12: no partial sum that was formed, nor B, has a denominator over the limit. That F sums past C is a question of its own
 abbrev pub isFine : Bound → Bool
 isFine (bound.At b) = true
 isFine bound.Above = true

@@ -1,4 +1,4 @@
-// A link with its entries: its words R and F, the sum of F, its rate B, sets of its sessions, and the F check (001, sections III and IV).
+// A link with its entries: its words R and F, the sum of F, its rate B, sets of its sessions, and the F check (001, section III).
 use fractions::Rate;
 use fractions::Share;
 use fractions::Sum;
@@ -7,7 +7,7 @@ ghost use mathlib.Core.Path.{_≡_};
 ghost use Prim.Native.Nat.{ℕ, _≤_, _<_};
 ghost use Rattle.fractions.specs.Fraction.{Sized, maxRate};
 ghost use Rattle.sessions.specs.Set.{put};
-ghost use Rattle.links.specs.FCheck.{checkOf, checkedOf, higherOf, highestOf, turnOf};
+ghost use Rattle.links.specs.FCheck.{checkOf, checkedOf, higherOf, highestOf, processOf, turnOf};
 ghost use Rattle.links.specs.Links.{B, BoundSized, Rates, SumSized, TotalSized, WantedSized, Workable, aboveB, allAtB, asBound, atLeastB, atMostB, belowB, boundOf, equalsB, holds, isFine, isIdle, meetsOf, moreOf, sumOf, thoseOf, uptoOf, waitingOf, withEntry, withMu, withWords};
 
 // The state of a session at a link or at its source.
@@ -62,6 +62,13 @@ pub enum Wanted {
 // A link that the F check leaves, with its B.
 pub struct Checked {
     pub place: Place,
+    pub bound: Bound,
+}
+
+// What ProcessNewRestricted leaves: the link, the sessions that are sent an Update, and the link's B.
+pub struct Processed {
+    pub place: Place,
+    pub to: u32,
     pub bound: Bound,
 }
 
@@ -403,5 +410,22 @@ pub fn check_f(p: Place) -> Checked
     Checked {
         place: now,
         bound: last,
+    }
+}
+
+// ProcessNewRestricted: the F check, and then the idle members of R above B are to be updated.
+pub fn process_new_restricted(p: Place) -> Processed
+    requires { ⌜ Workable p ⌝ }
+    ensures { λ r. ⌜ r ≡ processOf p ⌝ }
+{
+    let q = check_f(p);
+    let left = q.place;
+    let b = q.bound;
+    let over = those(Wanted::IdleAbove(b), left, left.link.r);
+    let next = waiting(left, over);
+    Processed {
+        place: next,
+        to: over,
+        bound: b,
     }
 }

@@ -1,0 +1,3 @@
+-- The definitions that the contracts of ends cite.
+pub mod Figure3
+pub mod Figure4

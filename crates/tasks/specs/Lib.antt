@@ -1,0 +1,2 @@
+-- The definitions that the contracts of tasks cite.
+pub mod Figure2
