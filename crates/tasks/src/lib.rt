@@ -12,6 +12,7 @@ ghost use Rattle.fractions.specs.Fraction.{Sized, maxRate, zeroOf};
 ghost use Rattle.tasks.specs.declared.Kind.the-variants as kind;
 ghost use Rattle.links.specs.declared.Mu.the-variants as mu;
 ghost use Rattle.links.specs.Links.{B, BoundSized, Rates, Workable, awaitsResponse, belowB, entry, equalsB, holds, inR, isFine, isIdle, muAt, rateAt};
+ghost use Rattle.tasks.specs.Packets.{goesDown, isLeave};
 ghost use Rattle.tasks.specs.Figure2.{KindSized, acceptedOf, agreedOf, answeredOf, bottleneckOf, freedOf, isLink, joinOf, leaveOf, linkStepOf, loweredOf, namedOf, probeOf, quiet, responseOf, restrictedOf, setBottleneckOf, stayingOf, updateOf, updating, withoutOf};
 
 // What a Response asks for.
@@ -66,6 +67,36 @@ pub struct Did {
     pub to: u32,
     pub on: Onward,
     pub fine: bool,
+}
+
+// Whether packets of this kind go downstream.
+pub fn goes_down(kind: Kind) -> bool
+    ensures { λ r. ⌜ r ≡ goesDown kind ⌝ }
+{
+    match kind {
+        Kind::Join(x, eta) => true,
+        Kind::Probe(x, eta) => true,
+        Kind::Response(tau, x, eta) => false,
+        Kind::Update => false,
+        Kind::Bottleneck => false,
+        Kind::SetBottleneck(beta) => true,
+        Kind::Leave => true,
+    }
+}
+
+// Whether a packet is a Leave.
+pub fn is_leave(kind: Kind) -> bool
+    ensures { λ r. ⌜ r ≡ isLeave kind ⌝ }
+{
+    match kind {
+        Kind::Join(x, eta) => false,
+        Kind::Probe(x, eta) => false,
+        Kind::Response(tau, x, eta) => false,
+        Kind::Update => false,
+        Kind::Bottleneck => false,
+        Kind::SetBottleneck(beta) => false,
+        Kind::Leave => true,
+    }
 }
 
 // 0/1 and waiting: what a link keeps of a session that joins.
