@@ -3,3 +3,4 @@ mod Rooms
 mod Turns
 mod Needs
 mod Steps
+pub mod Refusals

@@ -1,21 +1,15 @@
--- What is read from any table is within the limits that the tasks ask for.
+-- A source that is read from any table, and a packet's kind, are within the limits that the tasks ask for.
 -- Assumes nothing.
 use mathlib.Core.List.{List}
 use lib.Dec.{lit≤}
 use Prim.Native.Nat.{ℕ}
 use Rattle.ends.specs.Figure3.{Ready}
-use Rattle.links.specs.Links.{Workable}
-use Rattle.table.proofs.InRange.{place-in-range, source-in-range}
+use Rattle.table.proofs.InRange.{source-in-range}
 use Rattle.table.specs.Values.{KindInRange}
-use Rattle.table.specs.Words.{placeOf, sourceOf}
+use Rattle.table.specs.Words.{sourceOf}
 use Rattle.tasks.specs.declared.Kind.{Kind}
 use Rattle.tasks.specs.declared.Kind.the-variants as kind
 use Rattle.tasks.specs.Figure2.{KindSized}
-
-pub workable : (w : List ℕ) (e : ℕ) → Workable (placeOf w e)
-workable w e =
-    let p = place-in-range w e in
-    record { capacity = p .link .capacity; rates = record { many = p .entries .all; sized = p .entries .rate } }
 
 pub ready : (w : List ℕ) (s : ℕ) → Ready (sourceOf w s)
 ready w s = let z = source-in-range w s in record { access = z .access; rate = z .rate }

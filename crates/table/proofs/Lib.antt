@@ -1,6 +1,7 @@
 -- Laws of table. A crate above cites them as Rattle.table.proofs.NAME.
 pub mod Loops
 pub mod InRange
+pub mod Workables
 pub mod Hops
 pub mod Store
 pub mod Places
@@ -9,6 +10,7 @@ pub mod ReadBack
 pub mod Unchanged
 pub mod Packets
 pub mod Empty
+pub mod EmptyLinks
 pub mod FitsMeans
 pub mod FitsLinks
 pub mod FitsSources

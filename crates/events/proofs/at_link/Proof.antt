@@ -9,7 +9,8 @@ use Prim.Native.Nat.{ℕ, _≤_}
 use Rattle.links.specs.Links.{Workable}
 use Rattle.table.proofs.InRange.{count-most}
 use Rattle.tasks.specs.Figure2.{linkStepOf}
-use Rattle.events.proofs.Needs.{kind-sized, workable}
+use Rattle.events.proofs.Needs.{kind-sized}
+use Rattle.table.proofs.Workables.{place-workable}
 use Rattle.events.proofs.Steps.{link-done, link-many, link-too-fine}
 use borrow.Author.Needs.{needs}
 use Rattle.events.proofs.at_link.Statement.{statement}
@@ -22,7 +23,7 @@ cast-link-step : tie.Need-cast-link-step
 cast-link-step c = search needs
 
 link-step-requires : tie.Need-link-step-requires
-link-step-requires c κs = (c .before .before .pre .1 .session, kind-sized (c .before .before .args .p .kind) (c .before .before .pre .1 .kind), subst Workable (sym (c .place-at .ensures)) (workable _ _))
+link-step-requires c κs = (c .before .before .pre .1 .session, kind-sized (c .before .before .args .p .kind) (c .before .before .pre .1 .kind), subst Workable (sym (c .place-at .ensures)) (place-workable _ _))
 
 returns : tie.Need-returns
 returns c = sym (link-too-fine _ _ _ _ (c .before .before .link-step .result) (c .before .before .link-step .ensures ∙ ap (linkStepOf (c .before .before .before .before .before .args .e) (c .before .before .before .before .before .args .p .session) (c .before .before .before .before .before .args .p .kind)) (c .before .before .before .place-at .ensures)) (not-true _ (c .if1 .taken)))

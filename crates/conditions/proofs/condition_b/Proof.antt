@@ -1,0 +1,66 @@
+-- `conditions::condition_b` meets its contract: the first that fails settles it.
+-- Assumes nothing.
+use mathlib.Core.Path.{ap, sym, _∙_, _≡_}
+use mathlib.Core.Bool.{true}
+use Prim.Native.Nat.{ℕ, _-_, _≤_}
+use native.Mathlib.Omega.{arith}
+use Rattle.fractions.proofs.Cases.{not-false, not-true}
+use Rattle.records.specs.Format.{all}
+use Rattle.records.proofs.Alls.{all-fails, all-next, all-none}
+use Rattle.conditions.specs.Settled.{conditionB, sessionRests}
+use borrow.Author.Needs.{needs}
+use Rattle.conditions.proofs.condition_b.Statement.{statement}
+use Rattle.conditions.proofs.condition_b.Tie as tie
+
+abbrev Inv-loop : tie.InvT-loop
+Inv-loop t s₀ s = (s ≤ 32) × (all s (sessionRests t) ≡ true)
+
+abbrev μ-loop : tie.MeasureT-loop
+μ-loop t s₀ s = 32 - s
+
+loop-holds : tie.Need-loop-holds Inv-loop μ-loop
+loop-holds c = (omega arith, all-none _)
+
+session-rests-requires : tie.Need-session-rests-requires Inv-loop μ-loop
+session-rests-requires c κs = search needs
+
+returns : tie.Need-returns Inv-loop μ-loop
+unfolding conditionB
+returns c =
+    let l = c .before .before .before .loop in
+    let a = c .before .before .before .before .args in
+    sym (all-fails 32 (sessionRests (a .t .now)) (l .s) (c .before .before .loop-test .taken) (sym (c .before .session-rests .ensures) ∙ not-true _ (c .if1 .taken)))
+
+add-s : tie.Need-add-s Inv-loop μ-loop
+add-s c = search needs
+
+loop-less : tie.Need-loop-less Inv-loop μ-loop
+loop-less c = search needs
+
+loop-again : tie.Need-loop-again Inv-loop μ-loop
+loop-again c =
+    let l = c .before .before .before .loop in
+    let a = c .before .before .before .before .args in
+    (omega arith, all-next (l .s) (sessionRests (a .t .now)) (l .inv .1) (sym (c .before .session-rests .ensures) ∙ not-false _ (c .if1 .left)))
+
+returns-2 : tie.Need-returns-2 Inv-loop μ-loop
+unfolding conditionB
+returns-2 c =
+    let l = c .before .loop in
+    let a = c .before .before .args in
+    let e : l .s ≡ 32 = omega arith in
+    sym (ap (λ (k : ℕ). all k (sessionRests (a .t .now))) (sym e) ∙ l .inv .1)
+
+pub condition-b-spec : {M : Type 1} → statement M
+condition-b-spec =
+    tie.close
+    (tie.spec
+    Inv-loop
+    μ-loop
+    loop-holds
+    session-rests-requires
+    returns
+    add-s
+    loop-less
+    loop-again
+    returns-2)

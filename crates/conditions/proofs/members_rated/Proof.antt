@@ -1,0 +1,66 @@
+-- `conditions::members_rated` meets its contract: the first that fails settles it.
+-- Assumes nothing.
+use mathlib.Core.Path.{ap, sym, _∙_, _≡_}
+use mathlib.Core.Bool.{true}
+use Prim.Native.Nat.{ℕ, _-_, _≤_}
+use native.Mathlib.Omega.{arith}
+use Rattle.fractions.proofs.Cases.{not-false, not-true}
+use Rattle.records.specs.Format.{all}
+use Rattle.records.proofs.Alls.{all-fails, all-next, all-none}
+use Rattle.conditions.specs.Settled.{memberRated, membersRated}
+use borrow.Author.Needs.{needs}
+use Rattle.conditions.proofs.members_rated.Statement.{statement}
+use Rattle.conditions.proofs.members_rated.Tie as tie
+
+abbrev Inv-loop : tie.InvT-loop
+Inv-loop b p s₀ s = (s ≤ 32) × (all s (memberRated b p) ≡ true)
+
+abbrev μ-loop : tie.MeasureT-loop
+μ-loop b p s₀ s = 32 - s
+
+loop-holds : tie.Need-loop-holds Inv-loop μ-loop
+loop-holds c = (omega arith, all-none _)
+
+member-rated-requires : tie.Need-member-rated-requires Inv-loop μ-loop
+member-rated-requires c κs = search needs
+
+returns : tie.Need-returns Inv-loop μ-loop
+unfolding membersRated
+returns c =
+    let l = c .before .before .before .loop in
+    let a = c .before .before .before .before .args in
+    sym (all-fails 32 (memberRated (a .b) (a .p)) (l .s) (c .before .before .loop-test .taken) (sym (c .before .member-rated .ensures) ∙ not-true _ (c .if1 .taken)))
+
+add-s : tie.Need-add-s Inv-loop μ-loop
+add-s c = search needs
+
+loop-less : tie.Need-loop-less Inv-loop μ-loop
+loop-less c = search needs
+
+loop-again : tie.Need-loop-again Inv-loop μ-loop
+loop-again c =
+    let l = c .before .before .before .loop in
+    let a = c .before .before .before .before .args in
+    (omega arith, all-next (l .s) (memberRated (a .b) (a .p)) (l .inv .1) (sym (c .before .member-rated .ensures) ∙ not-false _ (c .if1 .left)))
+
+returns-2 : tie.Need-returns-2 Inv-loop μ-loop
+unfolding membersRated
+returns-2 c =
+    let l = c .before .loop in
+    let a = c .before .before .args in
+    let e : l .s ≡ 32 = omega arith in
+    sym (ap (λ (k : ℕ). all k (memberRated (a .b) (a .p))) (sym e) ∙ l .inv .1)
+
+pub members-rated-spec : {M : Type 1} → statement M
+members-rated-spec =
+    tie.close
+    (tie.spec
+    Inv-loop
+    μ-loop
+    loop-holds
+    member-rated-requires
+    returns
+    add-s
+    loop-less
+    loop-again
+    returns-2)

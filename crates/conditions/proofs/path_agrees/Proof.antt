@@ -1,0 +1,71 @@
+-- `conditions::path_agrees` meets its contract: the first that fails settles it.
+-- Assumes nothing.
+use mathlib.Core.Path.{ap, sym, _∙_, _≡_}
+use mathlib.Core.Bool.{true}
+use Prim.Native.Nat.{ℕ, _-_, _≤_}
+use native.Mathlib.Omega.{arith}
+use Rattle.fractions.proofs.Cases.{not-false, not-true}
+use Rattle.records.specs.Format.{all}
+use Rattle.records.proofs.Alls.{all-fails, all-next, all-none}
+use Rattle.conditions.specs.Settled.{pathAgrees, stopAgrees}
+use Rattle.table.proofs.InRange.{hops-most}
+use borrow.Author.Needs.{needs}
+use Rattle.conditions.proofs.path_agrees.Statement.{statement}
+use Rattle.conditions.proofs.path_agrees.Tie as tie
+
+abbrev Inv-loop : tie.InvT-loop
+Inv-loop t s n i₀ i = (i ≤ n) × (n ≤ 8) × (all i (stopAgrees t s) ≡ true)
+
+abbrev μ-loop : tie.MeasureT-loop
+μ-loop t s n i₀ i = n - i
+
+hops-at-requires : tie.Need-hops-at-requires Inv-loop μ-loop
+hops-at-requires c κs = search needs
+
+loop-holds : tie.Need-loop-holds Inv-loop μ-loop
+loop-holds c = (omega arith, omega (arith, c .hops-at .ensures, hops-most (c .before .args .t .now) (c .before .args .s)), all-none _)
+
+stop-agrees-requires : tie.Need-stop-agrees-requires Inv-loop μ-loop
+stop-agrees-requires c κs = search needs
+
+returns : tie.Need-returns Inv-loop μ-loop
+unfolding pathAgrees
+returns c =
+    let l = c .before .before .before .loop in
+    let a = c .before .before .before .before .before .args in
+    rw (← (c .before .before .before .before .hops-at .ensures)) (sym (all-fails (c .before .before .before .before .hops-at .result) (stopAgrees (a .t .now) (a .s)) (l .i) (c .before .before .loop-test .taken) (sym (c .before .stop-agrees .ensures) ∙ not-true _ (c .if1 .taken))))
+
+add-i : tie.Need-add-i Inv-loop μ-loop
+add-i c = search needs
+
+loop-less : tie.Need-loop-less Inv-loop μ-loop
+loop-less c = search needs
+
+loop-again : tie.Need-loop-again Inv-loop μ-loop
+loop-again c =
+    let l = c .before .before .before .loop in
+    let a = c .before .before .before .before .before .args in
+    (omega arith, l .inv .1, all-next (l .i) (stopAgrees (a .t .now) (a .s)) (l .inv .2) (sym (c .before .stop-agrees .ensures) ∙ not-false _ (c .if1 .left)))
+
+returns-2 : tie.Need-returns-2 Inv-loop μ-loop
+unfolding pathAgrees
+returns-2 c =
+    let l = c .before .loop in
+    let a = c .before .before .before .args in
+    let e : l .i ≡ (c .before .before .hops-at .result) = omega arith in
+    rw (← (c .before .before .hops-at .ensures)) (sym (ap (λ (k : ℕ). all k (stopAgrees (a .t .now) (a .s))) (sym e) ∙ l .inv .2))
+
+pub path-agrees-spec : {M : Type 1} → statement M
+path-agrees-spec =
+    tie.close
+    (tie.spec
+    Inv-loop
+    μ-loop
+    hops-at-requires
+    loop-holds
+    stop-agrees-requires
+    returns
+    add-i
+    loop-less
+    loop-again
+    returns-2)

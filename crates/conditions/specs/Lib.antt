@@ -1,0 +1,3 @@
+-- The definitions that the contracts and laws of conditions cite.
+pub mod Settled
+pub mod Conditions

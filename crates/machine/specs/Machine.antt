@@ -1,0 +1,93 @@
+-- The machine's calls (01): a run of the records of an input on a handed table, and whether a table is settled. w are the words of the table.
+-- Assumes nothing: definitions.
+use mathlib.Core.Bool.{cond}
+use mathlib.Core.List.{List}
+use Prim.Native.Nat.{ℕ}
+use lib.Dec.{ltb}
+use lib.ListN.{length}
+use Rattle.conditions.specs.Conditions.{FiveConditions}
+use Rattle.conditions.specs.Settled.{settledOf}
+use Rattle.events.specs.Events.{Step, eventOf, refusing}
+use Rattle.handed.specs.Handed.{passes14Of}
+use Rattle.handed.specs.Passes.{Passes}
+use Rattle.records.specs.declared.Call.the-variants as call
+use Rattle.records.specs.declared.End.{End}
+use Rattle.records.specs.declared.End.the-variants as end
+use Rattle.records.specs.declared.Read.{Read}
+use Rattle.records.specs.declared.Read.the-variants as read
+use Rattle.records.specs.declared.Record.{Record}
+use Rattle.records.specs.declared.Refusal.{Refusal}
+use Rattle.records.specs.declared.Refusal.the-variants as refusal
+use Rattle.records.specs.declared.Verdict.{Verdict}
+use Rattle.records.specs.Format.{readAt}
+use Rattle.records.specs.Limits.{inputLimit, sessionLimit}
+use Rattle.records.specs.Refusals.{numberOf}
+use Rattle.records.specs.Run as records
+use Rattle.table.specs.Words.{sourceOf}
+use Rattle.machine.specs.declared.Ran.{Ran}
+use Rattle.machine.specs.declared.Session.{Session}
+use Rattle.machine.specs.declared.Session.the-variants as session
+use Rattle.machine.specs.declared.SettledAnswer.{SettledAnswer}
+use Rattle.machine.specs.declared.SettledAnswer.the-variants as settled
+
+-- a session as its owner sees it
+unfoldable pub sessionOf : List ℕ → ℕ → Session
+sessionOf w s = cond (ltb s sessionLimit) (cond (sourceOf w s .active) (session.Active (sourceOf w s .told)) session.NotActive) session.NotActive
+
+-- the record at a place of the input s, and what it does
+abbrev pub readStep : List ℕ → List ℕ → Read → Step
+readStep s w (read.Record x) = eventOf s w x
+readStep s w (read.Refused r) = refusing r w
+
+unfoldable pub stepOf : List ℕ → List ℕ → ℕ → Step
+stepOf s w at = readStep s w (readAt call.Machine s at)
+
+-- whether a record is taken, and what it leaves
+abbrev pub judging : List ℕ → List ℕ → Record → Verdict
+judging s w x = eventOf s w x .verdict
+
+abbrev pub acting : List ℕ → List ℕ → Record → List ℕ
+acting s w x = eventOf s w x .words
+
+-- what a run comes to, with the table after it
+abbrev pub ranOf : Ran → List ℕ → records.Ran (List ℕ)
+ranOf r w = record { state = w; taken = r .taken; end = r .end }
+
+-- a run of the records: the definition of a run that every call shares
+unfoldable pub runOf : List ℕ → List ℕ → records.Ran (List ℕ)
+runOf w s = records.runOf call.Machine (judging s) (acting s) s w
+
+-- A HANDED TABLE: 14, THEN 1, THEN THE RECORDS ------------------------------------------------------------------------
+
+-- "A refusal returns its number and the place of its record's kind byte (0 for 1, 14, 15)"; nothing was taken, and the table stays
+abbrev pub nothingTaken : Refusal → Ran
+nothingTaken r = record { taken = 0; end = end.Refused r 0 }
+
+abbrev pub turnedAway : Refusal → List ℕ → records.Ran (List ℕ)
+turnedAway r w = ranOf (nothingTaken r) w
+
+unfoldable pub machineOf : List ℕ → List ℕ → records.Ran (List ℕ)
+machineOf w s =
+    cond (passes14Of w) (cond (ltb inputLimit (length s)) (turnedAway refusal.TooLong w) (runOf w s)) (turnedAway refusal.BadTable w)
+
+-- 01's number and values of how a run ended: 0 at its end, or the number of the refusal with its place; and the records taken
+pub record Said : Type 0 where
+  pub number : ℕ
+  pub place : ℕ
+  pub taken : ℕ
+
+abbrev pub saidOf : ℕ → End → Said
+saidOf n end.Finished = record { number = 0; place = 0; taken = n }
+saidOf n (end.Refused r place) = record { number = numberOf r; place = place; taken = n }
+
+-- SETTLED -------------------------------------------------------------------------------------------------------------
+
+-- the answer; of a table that fails the test of refusal 14 the question is refused
+unfoldable pub answerOf : List ℕ → SettledAnswer
+answerOf w = cond (passes14Of w) (cond (settledOf w) settled.Yes settled.No) (settled.Refused refusal.BadTable 0)
+
+-- what it means: yes exactly under the five conditions
+abbrev pub Means : List ℕ → SettledAnswer → Type 0
+Means w settled.Yes = FiveConditions w
+Means w settled.No = FiveConditions w → ⊥
+Means w (settled.Refused r place) = Passes w → ⊥
