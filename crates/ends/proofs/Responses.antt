@@ -1,18 +1,14 @@
 -- What a source does by its flags.
 -- Assumes nothing.
-use mathlib.Core.Bool.{Bool, cond, false, true}
-use mathlib.Core.Path.{_≡_, ap}
+use mathlib.Core.Bool.{false, true}
+use mathlib.Core.Path.{_≡_}
 use Rattle.fractions.specs.declared.Rate.{Rate}
+use Rattle.fractions.proofs.Cases.{chosen}
 use Rattle.tasks.specs.declared.Kind.{Kind}
 use Rattle.tasks.specs.declared.Onward.the-variants as onward
 use Rattle.tasks.specs.declared.Tau.the-variants as tau
 use Rattle.ends.specs.declared.Source.{Source}
-use Rattle.ends.specs.declared.SourceDid.{SourceDid}
 use Rattle.ends.specs.Figure3.{againOf, announcedOf, arrivedOf, assignedOf, doing, idleWith, sourceResponseOf, sourceStepOf}
-
--- what a test chooses
-chosen : (t u : Bool) (x y : SourceDid) → t ≡ u → cond t x y ≡ cond u x y
-chosen t u x y e = ap (λ (b : Bool). cond b x y) e
 
 module _ (z : Source) (x : Rate) where
   -- upd_rcv is noted: the source asks again

@@ -10,7 +10,7 @@ use Rattle.ends.specs.declared.Source.{Source}
 use Rattle.ends.specs.declared.SourceDid.{SourceDid}
 use Rattle.ends.specs.Figure3.{changingOf, joiningOf, leavingOf, sourceStepOf}
 use Rattle.ends.specs.Figure4.{destinationStepOf}
-use Rattle.fractions.proofs.Cases.{not-false, not-true}
+use Rattle.fractions.proofs.Cases.{chosen, not-false, not-true}
 use Rattle.records.specs.declared.Refusal.the-variants as refusal
 use Rattle.sessions.specs.Set.{sizeOf}
 use Rattle.table.specs.Words.{countOf, placeOf, putHops, putPath, putPlace, putSource, removed, sourceOf}
@@ -21,18 +21,14 @@ use Rattle.tasks.specs.Figure2.{linkStepOf}
 use Rattle.events.specs.Events.{Step, atDestinationOf, atLinkOf, atSourceOf, changeOf, joinOf, leaveOf, pathDeclaredIn, refusing, sourceSends, taking, unlessMany}
 use Rattle.events.specs.Sending.{noneOf, onPathOf, oneIf, sendAllOf, sendOnOf}
 
--- a test that was made
-pub chosen : {A : Type 0} {t u : Bool} (x y : A) → t ≡ u → cond t x y ≡ cond u x y
-chosen x y e = ap (λ (b : Bool). cond b x y) e
-
 -- REFUSAL 13 ----------------------------------------------------------------------------------------------------------
 
 module _ (n m : ℕ) (w v : List ℕ) (e : m ≡ n) where
   pub too-many : 256 < m → unlessMany n w v ≡ refusing refusal.TooManyPackets w
-  too-many h = chosen (refusing refusal.TooManyPackets w) (taking v) (ap (ltb 256) (sym e) ∙ lt-ltb 256 m h)
+  too-many h = chosen (ltb 256 n) true (refusing refusal.TooManyPackets w) (taking v) (ap (ltb 256) (sym e) ∙ lt-ltb 256 m h)
 
   pub few : m ≤ 256 → unlessMany n w v ≡ taking v
-  few h = chosen (refusing refusal.TooManyPackets w) (taking v) (ap (ltb 256) (sym e) ∙ le-ltb 256 m h)
+  few h = chosen (ltb 256 n) false (refusing refusal.TooManyPackets w) (taking v) (ap (ltb 256) (sym e) ∙ le-ltb 256 m h)
 
 -- A LINK --------------------------------------------------------------------------------------------------------------
 
@@ -52,14 +48,14 @@ module _ (w : List ℕ) (i : ℕ) (p : Packet) (e : ℕ) where
     at-link-is = ap linkWith (sym is)
 
     pub link-too-fine : d .fine ≡ false → atLinkOf w i p e ≡ refusing refusal.TooFine w
-    link-too-fine h = at-link-is ∙ chosen {t = d .fine} (unlessManySent d) (refusing refusal.TooFine w) h
+    link-too-fine h = at-link-is ∙ chosen (d .fine) _ (unlessManySent d) (refusing refusal.TooFine w) h
 
     module _ (to n k o : ℕ) (h : d .fine ≡ true) (on : to ≡ onPathOf w e (d .to)) (en : n ≡ countOf w) (ek : k ≡ sizeOf to) (eo : o ≡ oneIf (d .on)) where
       after-is : n - 1 + k + o ≡ countOf w - 1 + sizeOf (onPathOf w e (d .to)) + oneIf (d .on)
       after-is = ap₂ _+_ (ap₂ (λ a b. a - 1 + b) en (ek ∙ ap sizeOf on)) eo
 
       fine-is : atLinkOf w i p e ≡ unlessManySent d
-      fine-is = at-link-is ∙ chosen {t = d .fine} (unlessManySent d) (refusing refusal.TooFine w) h
+      fine-is = at-link-is ∙ chosen (d .fine) _ (unlessManySent d) (refusing refusal.TooFine w) h
 
       pub link-many : 256 < n - 1 + k + o → atLinkOf w i p e ≡ refusing refusal.TooManyPackets w
       link-many l = fine-is ∙ too-many _ (n - 1 + k + o) w _ after-is l
@@ -103,11 +99,11 @@ module _ (w : List ℕ) (i : ℕ) (p : Packet) where
 module _ (w v : List ℕ) (t : ℕ) (d : SourceDid) (r : Bool) (e : r ≡ not (ltb 256 (countOf w + oneIf (d .on)))) where
   pub sends-many : r ≡ false → sourceSends w v t d ≡ refusing refusal.TooManyPackets w
   unfolding sourceSends
-  sends-many h = chosen {t = ltb 256 (countOf w + oneIf (d .on))} (refusing refusal.TooManyPackets w) (taking (sendOnOf (putSource v t (d .source)) t 0 (d .on))) (not-false _ (sym e ∙ h))
+  sends-many h = chosen (ltb 256 (countOf w + oneIf (d .on))) _ (refusing refusal.TooManyPackets w) (taking (sendOnOf (putSource v t (d .source)) t 0 (d .on))) (not-false _ (sym e ∙ h))
 
   pub sends-done : r ≡ true → (u : List ℕ) → u ≡ sendOnOf (putSource v t (d .source)) t 0 (d .on) → sourceSends w v t d ≡ taking u
   unfolding sourceSends
-  sends-done h u x = chosen {t = ltb 256 (countOf w + oneIf (d .on))} (refusing refusal.TooManyPackets w) (taking (sendOnOf (putSource v t (d .source)) t 0 (d .on))) (not-true _ (sym e ∙ h)) ∙ ap taking (sym x)
+  sends-done h u x = chosen (ltb 256 (countOf w + oneIf (d .on))) _ (refusing refusal.TooManyPackets w) (taking (sendOnOf (putSource v t (d .source)) t 0 (d .on))) (not-true _ (sym e ∙ h)) ∙ ap taking (sym x)
 
 module _ (w : List ℕ) (t : ℕ) (z : Source) (is : z ≡ sourceOf w t) where
   active-is : sourceOf w t .active ≡ z .active
@@ -115,22 +111,22 @@ module _ (w : List ℕ) (t : ℕ) (z : Source) (is : z ≡ sourceOf w t) where
 
   pub leave-not : z .active ≡ false → leaveOf w t ≡ refusing refusal.NotActive w
   unfolding leaveOf
-  leave-not h = chosen (sourceSends w w t (leavingOf (sourceOf w t))) (refusing refusal.NotActive w) (active-is ∙ h)
+  leave-not h = chosen (sourceOf w t .active) _ (sourceSends w w t (leavingOf (sourceOf w t))) (refusing refusal.NotActive w) (active-is ∙ h)
 
   pub leave-does : z .active ≡ true → (d : SourceDid) → d ≡ leavingOf z → leaveOf w t ≡ sourceSends w w t d
   unfolding leaveOf
   leave-does h d e =
-      chosen (sourceSends w w t (leavingOf (sourceOf w t))) (refusing refusal.NotActive w) (active-is ∙ h)
+      chosen (sourceOf w t .active) _ (sourceSends w w t (leavingOf (sourceOf w t))) (refusing refusal.NotActive w) (active-is ∙ h)
       ∙ ap (sourceSends w w t) (ap leavingOf (sym is) ∙ sym e)
 
   pub change-not : (m : ℕ) → z .active ≡ false → changeOf w t m ≡ refusing refusal.NotActive w
   unfolding changeOf
-  change-not m h = chosen (sourceSends w w t (changingOf (sourceOf w t) m)) (refusing refusal.NotActive w) (active-is ∙ h)
+  change-not m h = chosen (sourceOf w t .active) _ (sourceSends w w t (changingOf (sourceOf w t) m)) (refusing refusal.NotActive w) (active-is ∙ h)
 
   pub change-does : (m : ℕ) → z .active ≡ true → (d : SourceDid) → d ≡ changingOf z m → changeOf w t m ≡ sourceSends w w t d
   unfolding changeOf
   change-does m h d e =
-      chosen (sourceSends w w t (changingOf (sourceOf w t) m)) (refusing refusal.NotActive w) (active-is ∙ h)
+      chosen (sourceOf w t .active) _ (sourceSends w w t (changingOf (sourceOf w t) m)) (refusing refusal.NotActive w) (active-is ∙ h)
       ∙ ap (sourceSends w w t) (ap (λ (x : Source). changingOf x m) (sym is) ∙ sym e)
 
 -- a session that is not active joins, where its links are declared and none of its packets is in flight
@@ -146,31 +142,31 @@ module _ (s w : List ℕ) (t access maximum n at : ℕ) (z : Source) (is : z ≡
 
   pub join-active : z .active ≡ true → joinOf s w t access maximum n at ≡ refusing refusal.AlreadyThere w
   unfolding joinOf
-  join-active h = chosen {t = sourceOf w t .active} (refusing refusal.AlreadyThere w) ifDeclared (active-is w t z is ∙ h)
+  join-active h = chosen (sourceOf w t .active) _ (refusing refusal.AlreadyThere w) ifDeclared (active-is w t z is ∙ h)
 
   module _ (h : z .active ≡ false) (r : Bool) (er : r ≡ pathDeclaredIn w s at n) where
     not-active : joinOf s w t access maximum n at ≡ ifDeclared
     unfolding joinOf
-    not-active = chosen {t = sourceOf w t .active} (refusing refusal.AlreadyThere w) ifDeclared (active-is w t z is ∙ h)
+    not-active = chosen (sourceOf w t .active) _ (refusing refusal.AlreadyThere w) ifDeclared (active-is w t z is ∙ h)
 
     pub join-undeclared : r ≡ false → joinOf s w t access maximum n at ≡ refusing refusal.UndeclaredLink w
-    join-undeclared k = not-active ∙ chosen {t = pathDeclaredIn w s at n} unlessLeaving (refusing refusal.UndeclaredLink w) (sym er ∙ k)
+    join-undeclared k = not-active ∙ chosen (pathDeclaredIn w s at n) _ unlessLeaving (refusing refusal.UndeclaredLink w) (sym er ∙ k)
 
     module _ (k : r ≡ true) (c : ℕ) (q : Bool) (ec : c ≡ countOf w) (eq : q ≡ noneOf w t c) where
       declared : joinOf s w t access maximum n at ≡ unlessLeaving
-      declared = not-active ∙ chosen {t = pathDeclaredIn w s at n} unlessLeaving (refusing refusal.UndeclaredLink w) (sym er ∙ k)
+      declared = not-active ∙ chosen (pathDeclaredIn w s at n) _ unlessLeaving (refusing refusal.UndeclaredLink w) (sym er ∙ k)
 
       none-is : noneOf w t (countOf w) ≡ q
       none-is = ap (noneOf w t) (sym ec) ∙ sym eq
 
       pub join-leaving : q ≡ false → joinOf s w t access maximum n at ≡ refusing refusal.StillLeaving w
-      join-leaving l = declared ∙ chosen {t = noneOf w t (countOf w)} joins (refusing refusal.StillLeaving w) (none-is ∙ l)
+      join-leaving l = declared ∙ chosen (noneOf w t (countOf w)) _ joins (refusing refusal.StillLeaving w) (none-is ∙ l)
 
       module _ (l : q ≡ true) (d : SourceDid) (m : Bool) (ed : d ≡ joiningOf access maximum) (em : m ≡ not (ltb 256 (countOf w + oneIf (d .on)))) where
         free : joinOf s w t access maximum n at ≡ sourceSends w (putHops (putPath w t s at) t n) t d
         free =
             declared
-            ∙ (chosen {t = noneOf w t (countOf w)} joins (refusing refusal.StillLeaving w) (none-is ∙ l)
+            ∙ (chosen (noneOf w t (countOf w)) _ joins (refusing refusal.StillLeaving w) (none-is ∙ l)
             ∙ ap (sourceSends w (putHops (putPath w t s at) t n) t) (sym ed))
 
         pub join-many : m ≡ false → joinOf s w t access maximum n at ≡ refusing refusal.TooManyPackets w

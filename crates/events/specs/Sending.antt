@@ -5,7 +5,7 @@ use mathlib.Core.List.{List}
 use Prim.Native.Nat.{ℕ, _+_, _-_}
 use lib.Dec.{eqb}
 use Rattle.records.specs.Format.{all}
-use Rattle.sessions.specs.Set.{members, put, sizeOf, walk}
+use Rattle.sessions.specs.Set.{members, put, walk}
 use Rattle.table.specs.Words.{appended, hopFrom, packetOf, pathOf}
 use Rattle.tasks.specs.declared.Burst.{Burst}
 use Rattle.tasks.specs.declared.Burst.the-variants as burst
@@ -67,6 +67,6 @@ sameLane p q = eqb (p .session) (q .session) && (eqb (p .hop) (q .hop) && sameWa
 unfoldable pub inTurnOf : List ℕ → ℕ → Bool
 inTurnOf w i = all i (λ j. not (sameLane (packetOf w j) (packetOf w i)))
 
--- a packet of session s is in flight, where n are
+-- none of the first n packets is one of session s
 unfoldable pub noneOf : List ℕ → ℕ → ℕ → Bool
 noneOf w s n = all n (λ i. not (eqb (packetOf w i .session) s))

@@ -2,7 +2,7 @@
 -- Assumes nothing.
 use mathlib.Core.Bool.{Bool, _&&_, _||_, cond, false, not, true}
 use mathlib.Core.Logic.{_⊎_, inl, inr}
-use mathlib.Core.Path.{_≡_, refl, sym}
+use mathlib.Core.Path.{_≡_, ap, refl, sym}
 use Prim.Native.Nat.{ℕ, zero, suc, _*_, _≤_, _<_}
 use native.Mathlib.Decide.{decLe}
 use native.Mathlib.Omega.{arith}
@@ -126,6 +126,10 @@ same-test false false f g = refl
 pub cases : {A : Type 0} (P : A → Type 0) (t : Bool) (x y : A) → (t ≡ true → P x) → (t ≡ false → P y) → P (cond t x y)
 cases P true x y f g = f refl
 cases P false x y f g = g refl
+
+-- by a test whose answer is known
+pub chosen : {A : Type 0} (t u : Bool) (x y : A) → t ≡ u → cond t x y ≡ cond u x y
+chosen t u x y e = ap (λ (b : Bool). cond b x y) e
 
 -- which side was chosen
 pub chose-first : {A : Type 0} {x y z : A} (t : Bool) → cond t x y ≡ z → (y ≡ z → ⊥) → (t ≡ true) × (x ≡ z)

@@ -1,5 +1,7 @@
 -- 01, refusal 14: the test of a table that is handed in, one definition for each clause of its sentence. w is the table's words.
--- Only what is in use is looked at: an entry where its session is in R or F, a source whose session has joined, the links of a path, the packets in flight.
+-- Only what is in use is looked at: an entry where its session is in R or F, a source whose session has joined, the links of a path, the packets in
+-- flight, of these the words that their kind uses, and a told rate where one was told. Of every session it is looked at whether it is active and how
+-- long its path is.
 -- Assumes nothing: definitions.
 use mathlib.Core.Bool.{Bool, cond, false, not, true, _&&_, _||_}
 use mathlib.Core.List.{List}

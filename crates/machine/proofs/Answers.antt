@@ -2,7 +2,7 @@
 -- Assumes nothing.
 use mathlib.Core.Bool.{Bool, cond, false, true}
 use mathlib.Core.List.{List}
-use mathlib.Core.Path.{_≡_, ap, sym, _∙_}
+use mathlib.Core.Path.{_≡_, ap, refl, sym, _∙_}
 use Prim.Native.Nat.{ℕ, _≤_, _<_}
 use borrow.Author.Tests.{le-ltb, lt-ltb}
 use lib.Dec.{ltb}
@@ -11,6 +11,7 @@ use native.Mathlib.Omega.{arith}
 use Rattle.conditions.specs.Conditions.{FiveConditions}
 use Rattle.conditions.specs.Settled.{settledOf}
 use Rattle.conditions.proofs.Means.{means-settled, settled-means}
+use Rattle.fractions.proofs.Cases.{chosen}
 use Rattle.handed.specs.Handed.{passes14Of}
 use Rattle.handed.specs.Passes.{Passes}
 use Rattle.handed.proofs.Passing.{means-passes}
@@ -21,10 +22,6 @@ use Rattle.machine.specs.declared.Ran.{Ran}
 use Rattle.machine.specs.declared.SettledAnswer.{SettledAnswer}
 use Rattle.machine.specs.declared.SettledAnswer.the-variants as settled
 use Rattle.machine.specs.Machine.{Means, answerOf, machineOf, nothingTaken, ranOf, runOf, saidOf, turnedAway}
-
--- a test that was made
-chosen : {A : Type 0} (t u : Bool) (x y : A) → t ≡ u → cond t x y ≡ cond u x y
-chosen t u x y e = ap (λ (b : Bool). cond b x y) e
 
 -- A RUN ---------------------------------------------------------------------------------------------------------------
 
@@ -63,7 +60,7 @@ module _ (w : List ℕ) (p : Bool) (is : p ≡ passes14Of w) where
   unfolding answerOf
   question-refused h = (
     sym (chosen (passes14Of w) false answer (settled.Refused refusal.BadTable 0) (sym is ∙ h)),
-    λ g. clash (passes14Of w) (means-passes w g) (sym is ∙ h),
+    (refl, refl, λ g. clash (passes14Of w) (means-passes w g) (sym is ∙ h)),
   )
 
   module _ (h : p ≡ true) (q : Bool) (is′ : q ≡ settledOf w) where

@@ -1,19 +1,17 @@
 -- A session as its owner sees it, case by case.
 -- Assumes nothing.
-use mathlib.Core.Bool.{Bool, cond, false, true}
+use mathlib.Core.Bool.{cond, false, true}
 use mathlib.Core.List.{List}
 use mathlib.Core.Path.{_≡_, ap, sym, _∙_}
 use Prim.Native.Nat.{ℕ, _≤_, _<_}
 use borrow.Author.Tests.{le-ltb, lt-ltb}
 use lib.Dec.{ltb}
 use Rattle.ends.specs.declared.Source.{Source}
+use Rattle.fractions.proofs.Cases.{chosen}
 use Rattle.table.specs.Words.{sourceOf}
 use Rattle.machine.specs.declared.Session.{Session}
 use Rattle.machine.specs.declared.Session.the-variants as session
 use Rattle.machine.specs.Machine.{sessionOf}
-
-chosen : (t u : Bool) (x y : Session) → t ≡ u → cond t x y ≡ cond u x y
-chosen t u x y e = ap (λ (b : Bool). cond b x y) e
 
 abbrev shown : Source → Session
 shown z = cond (z .active) (session.Active (z .told)) session.NotActive

@@ -2,6 +2,7 @@
 -- Assumes nothing: definitions.
 use mathlib.Core.Bool.{cond}
 use mathlib.Core.List.{List}
+use mathlib.Core.Path.{_≡_}
 use Prim.Native.Nat.{ℕ}
 use lib.Dec.{ltb}
 use lib.ListN.{length}
@@ -86,8 +87,8 @@ saidOf n (end.Refused r place) = record { number = numberOf r; place = place; ta
 unfoldable pub answerOf : List ℕ → SettledAnswer
 answerOf w = cond (passes14Of w) (cond (settledOf w) settled.Yes settled.No) (settled.Refused refusal.BadTable 0)
 
--- what it means: yes exactly under the five conditions
+-- what it means: yes exactly under the five conditions, and a refusal is 01's 14, at place 0
 abbrev pub Means : List ℕ → SettledAnswer → Type 0
 Means w settled.Yes = FiveConditions w
 Means w settled.No = FiveConditions w → ⊥
-Means w (settled.Refused r place) = Passes w → ⊥
+Means w (settled.Refused r place) = (numberOf r ≡ 14) × (place ≡ 0) × (Passes w → ⊥)
