@@ -149,7 +149,7 @@ bottleneckOf s p = cond (isIdle (muAt p s) && inR p s) (quiet p (onward.Send kin
 abbrev pub idleAtB : Bound → Place → ℕ → ℕ
 idleAtB b p w = thoseOf (wanted.IdleAt b) (p .entries) w
 
--- lines 49 to 53; b is the B that line 48 was above the rate of s
+-- lines 49 to 53; b is the B that line 48 found above the rate of s, so it is not too fine
 unfoldable pub freedOf : Bound → ℕ → Bool → Place → Did
 freedOf b s β p =
     let q = withWords p (cut s (R p)) (put s (F p)) in  -- 52
