@@ -20,7 +20,7 @@ use Rattle.table.specs.Ranges.{flagsFit, numbersFit, pathFits, ratesFit,
 use Rattle.table.specs.Values.{SourceWithin, ToldWithin}
 use Rattle.table.specs.Words.{bitOf, blockAt, headWords, putBlock, putHops, putPath, putRates, putSource, toldCode, toldRate}
 use Rattle.table.proofs.Codes.{bit-most, mu-most, told-most}
-use Rattle.table.proofs.Places.{length-put-hops, put-hops-off, put-path-off, put-rates-off, put-source-off}
+use Rattle.table.proofs.Places.{length-put-hops, length-put-path, put-hops-off, put-path-off, put-rates-off, put-source-off}
 use Rattle.table.proofs.ReadBack.{rates-back}
 use Rattle.table.proofs.Store.{Agree, block-agree, block-back, block-word, eight, getD-block, length-put-block}
 
@@ -209,19 +209,57 @@ standing-fits-hops w s n l h m f =
     let e = and-both (leb (getD w a 0) 1) (leb (getD w (a + 12) 0) 8) f in
     rw (put-hops-off w s n a (inl (omega arith)), hops-word w s n (omega arith), e .0) (le-leb n 8 m)
 
+-- a path whose words are bytes of links
+path-fits-words : (u : List ℕ) (s n : ℕ) (bytes : List ℕ) (at : ℕ)
+    → n ≤ 8
+    → getD u (6336 + s * 24 + 12) 0 ≡ n
+    → ((j : ℕ) → j < n → getD u (6336 + s * 24 + 16 + j) 0 ≡ getD bytes (at + j) 0)
+    → ((i : ℕ) → i < n → getD bytes (at + i) 0 < 64)
+    → pathFits u s ≡ true
+unfolding pathFits
+path-fits-words u s n bytes at m p q g =
+    rw
+    (p, le-leb n 8 m)
+    (stops-fit-all n u s 0 (λ j a b. rw (q j (omega arith)) (omega (arith, g j (omega arith)))))
+
 pub path-fits-back : (w : List ℕ) (s n : ℕ) (bytes : List ℕ) (at : ℕ)
     → length w ≡ 9153
     → s < 32
     → n ≤ 8
     → ((i : ℕ) → i < n → getD bytes (at + i) 0 < 64)
     → pathFits (putPath (putHops w s n) s bytes at) s ≡ true
-unfolding pathFits
 path-fits-back w s n bytes at l h m g =
     let v : List ℕ = putHops w s n in
-    let u : List ℕ = putPath v s bytes at in
     let lv : length v ≡ 9153 = length-put-hops w s n ∙ l in
-    let p : getD u (6336 + s * 24 + 12) 0 ≡ n =
-    put-path-off v s bytes at (6336 + s * 24 + 12) (inl (omega arith)) ∙ hops-word w s n (omega arith) in
-    rw
-    (p, le-leb n 8 m)
-    (stops-fit-all n u s 0 (λ j a b. rw (path-word v s bytes at j (omega arith) (omega arith)) (omega (arith, g j (omega arith)))))
+    path-fits-words
+    (putPath v s bytes at)
+    s
+    n
+    bytes
+    at
+    m
+    (put-path-off v s bytes at (6336 + s * 24 + 12) (inl (omega arith)) ∙ hops-word w s n (omega arith))
+    (λ j k. path-word v s bytes at j (omega arith) (omega arith))
+    g
+
+-- and the other way round
+pub path-fits-back-hops-last : (w : List ℕ) (s n : ℕ) (bytes : List ℕ) (at : ℕ)
+    → length w ≡ 9153
+    → s < 32
+    → n ≤ 8
+    → ((i : ℕ) → i < n → getD bytes (at + i) 0 < 64)
+    → pathFits (putHops (putPath w s bytes at) s n) s ≡ true
+path-fits-back-hops-last w s n bytes at l h m g =
+    let v : List ℕ = putPath w s bytes at in
+    let lv : length v ≡ 9153 = length-put-path w s bytes at ∙ l in
+    path-fits-words
+    (putHops v s n)
+    s
+    n
+    bytes
+    at
+    m
+    (hops-word v s n (omega arith))
+    (λ j k.
+    put-hops-off v s n (6336 + s * 24 + 16 + j) (inr (omega arith)) ∙ path-word w s bytes at j (omega arith) (omega arith))
+    g

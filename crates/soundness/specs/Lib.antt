@@ -1,0 +1,3 @@
+-- The definitions that the theorems of soundness cite.
+pub mod Sound
+pub mod LinkDid
