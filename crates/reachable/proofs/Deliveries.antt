@@ -1,0 +1,83 @@
+-- A delivery takes its packet out of the list: the packets before it and behind it, that no Leave overtakes a Join, and the table without it.
+-- Assumes nothing.
+use mathlib.Core.Bool.{Bool, cond, false, not, true, _&&_}
+use mathlib.Core.List.{List, [], _∷_, _++_}
+use mathlib.Core.Path.{_≡_, ap, ap₂, refl, subst, sym, _∙_}
+use Prim.Native.Nat.{ℕ, zero, suc, _-_, _<_, _≤_}
+use native.Mathlib.Omega.{arith}
+use borrow.Author.Tests.{eq-eqb}
+use lib.Dec.{eqb}
+use lib.ListN.{drop, getD, length, take}
+use lib.Seq.{getD-take, length-take-le, split-at}
+use Rattle.events.specs.Sending.{inTurnOf, sameLane, sameWay}
+use Rattle.fractions.proofs.Cases.{not-true}
+use Rattle.records.proofs.Alls.{all-at}
+use Rattle.records.proofs.Somes.{clash}
+use Rattle.soundness.specs.LinkDid.{isJoin}
+use Rattle.table.specs.Words.{countOf, packetOf, packetsOf, removed}
+use Rattle.table.proofs.Packets.{count-removed, length-packets, packets-at, packets-removed}
+use Rattle.tasks.specs.declared.Packet.{Packet}
+use Rattle.tasks.specs.Packets.{goesDown, isLeave}
+use Rattle.reachable.specs.Invariant.{Every, Fits, Inv, PacketOk}
+use Rattle.reachable.proofs.FitsKept.{fits-removed}
+use Rattle.reachable.proofs.Follows.{NotOvertaken}
+use Rattle.reachable.proofs.Lines.{SameLines, lines-removed}
+use Rattle.reachable.proofs.LinkFrame.{before-ok, behind-ok}
+use Rattle.reachable.proofs.PacketLists.{every-append, every-at, every-index}
+use Rattle.reachable.proofs.SentPackets.{join-down, leave-down}
+
+pub packet-at : (w : List ℕ) (i : ℕ) → Inv w → i < countOf w → PacketOk w (packetOf w i)
+packet-at w i v h =
+    let z = packetOf w i in
+    subst (PacketOk w) (packets-at w i z h) (every-at z (packetsOf w) i (omega (arith, length-packets w)) (v .packets))
+
+same-lane : (p q : Packet) → p .session ≡ q .session → p .hop ≡ q .hop → p .down ≡ true → q .down ≡ true → sameLane p q ≡ true
+same-lane p q s h d e =
+    ap₂ _&&_ (eq-eqb (p .session) (q .session) s) (ap₂ _&&_ (eq-eqb (p .hop) (q .hop) h) (ap₂ sameWay d e))
+
+module _ (w : List ℕ) (i : ℕ) (v : Inv w) (h : i < countOf w) where
+  abbrev pub before : List Packet
+  before = take i (packetsOf w)
+
+  abbrev pub behind : List Packet
+  behind = drop (suc i) (packetsOf w)
+
+  pub parted : packetsOf w ≡ before ++ packetOf w i ∷ behind
+  parted =
+      let z = packetOf w i in
+      split-at (packetsOf w) i z (omega (arith, length-packets w)) ∙ ap (λ (p : Packet). before ++ p ∷ behind) (packets-at w i z h)
+
+  pub taken-out : packetsOf (removed w i) ≡ before ++ behind
+  taken-out = packets-removed w i (v .fits .long) h
+
+  -- an earlier packet of the same session, hop and direction would be delivered first
+  pub in-turn : inTurnOf w i ≡ true → Every (NotOvertaken (packetOf w i)) before
+  unfolding inTurnOf
+  in-turn t =
+      let z = packetOf w i in
+      let n : length before ≡ i = length-take-le i (packetsOf w) (omega (arith, length-packets w)) in
+      every-index z before
+      (λ j l.
+      subst (NotOvertaken z) (sym (getD-take i (packetsOf w) j z (omega (arith, n)) ∙ packets-at w j z (omega (arith, n)))) (not-before j (omega (arith, n))))
+    where
+      not-before : (j : ℕ) → j < i → NotOvertaken (packetOf w i) (packetOf w j)
+      not-before j l = record {
+        apart = λ a b c d.
+            let p = packetOf w i in
+            let q = packetOf w j in
+            clash (sameLane q p)
+            (same-lane q p (sym c) d (packet-at w j v (omega arith) .way ∙ join-down (q .kind) b) (packet-at w i v h .way ∙ leave-down (p .kind) a))
+            (not-true (sameLane q p) (all-at i (λ j. not (sameLane (packetOf w j) (packetOf w i))) j t l));
+      }
+
+  pub rest-ok : Every (PacketOk w) (before ++ behind)
+  rest-ok = every-append before behind (before-ok w v (packetOf w i) before behind parted) (behind-ok w v (packetOf w i) before behind parted)
+
+  pub fewer : countOf (removed w i) ≡ countOf w - 1
+  fewer = count-removed w i (v .fits .long)
+
+  pub fits-left : Fits (removed w i)
+  fits-left = fits-removed w i h (v .fits)
+
+  pub lines-left : SameLines w (removed w i)
+  lines-left = lines-removed w i (v .fits .long)

@@ -1,0 +1,49 @@
+-- Every record keeps the invariant, whether it is taken or refused; so does every run, and every table that is reached has it.
+-- Assumes nothing.
+use mathlib.Core.List.{List}
+use mathlib.Core.Path.{_≡_}
+use Prim.Native.Nat.{ℕ}
+use lib.Dec.{ltb}
+use lib.ListN.{length}
+use Rattle.events.specs.Events.{eventOf}
+use Rattle.fractions.proofs.Cases.{cases}
+use Rattle.handed.specs.Handed.{passes14Of}
+use Rattle.machine.specs.Machine.{acting, judging, machineOf, runOf}
+use Rattle.records.specs.declared.Call.the-variants as call
+use Rattle.records.specs.declared.Record.{Record}
+use Rattle.records.specs.declared.Record.the-variants as rec
+use Rattle.records.specs.Format.{RecordOk}
+use Rattle.records.specs.Limits.{inputLimit}
+use Rattle.records.specs.Run as records
+use Rattle.records.proofs.KeepsRanges.{run-keeps}
+use Rattle.records.proofs.ReadRecords.{Bytes}
+use Rattle.reachable.specs.Invariant.{Inv}
+use Rattle.reachable.specs.Reachable.{Reachable, empty, ran}
+use Rattle.reachable.proofs.AtEnds.{deliver-kept}
+use Rattle.reachable.proofs.Declares.{declare-kept, empty-inv}
+use Rattle.reachable.proofs.Joins.{join-kept}
+use Rattle.reachable.proofs.LeavesAndChanges.{change-kept, leave-kept}
+
+pub event-kept : (s w : List ℕ) (x : Record) → RecordOk s x → Inv w → Inv (eventOf s w x .words)
+unfolding eventOf
+event-kept s w (rec.Link e capacity) k i = declare-kept w e capacity (k .0) (k .2) i
+event-kept s w (rec.Session t access maximum n at) k i = join-kept s w t access maximum n at (k .0) (k .1) (k .2) (k .3) (k .4) (k .5) i
+event-kept s w (rec.Leave t) k i = leave-kept w t k i
+event-kept s w (rec.Change t maximum) k i = change-kept w t maximum (k .0) (k .1) i
+event-kept s w (rec.Deliver position) k i = deliver-kept w position i
+
+run-kept : (w s : List ℕ) → Bytes s → Inv w → Inv (runOf w s .state)
+unfolding runOf
+run-kept w s bytes i =
+    run-keeps Inv call.Machine (judging s) (acting s) s bytes (λ z x o k. event-kept s z x k o) (length s) w 0 0 i
+
+machine-kept : (w s : List ℕ) → Bytes s → Inv w → Inv (machineOf w s .state)
+unfolding machineOf
+machine-kept w s bytes i =
+    cases (λ (r : records.Ran (List ℕ)). Inv (r .state)) (passes14Of w) _ _
+    (λ e. cases (λ (r : records.Ran (List ℕ)). Inv (r .state)) (ltb inputLimit (length s)) _ _ (λ f. i) (λ f. run-kept w s bytes i))
+    (λ e. i)
+
+pub reachable-inv : (w : List ℕ) → Reachable w → Inv w
+reachable-inv w empty = empty-inv
+reachable-inv w (ran {w = b} r s bytes) = machine-kept b s bytes (reachable-inv b r)

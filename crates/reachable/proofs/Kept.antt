@@ -1,0 +1,97 @@
+-- What a table says of a packet, a session and a hop goes by the paths, the capacities and who is active.
+-- Assumes nothing.
+use mathlib.Core.Bool.{true}
+use mathlib.Core.List.{List}
+use mathlib.Core.Logic.{_⊎_, inl, inr}
+use mathlib.Core.Path.{_≡_, ap, refl, subst, sym, _∙_}
+use Prim.Native.Nat.{ℕ, zero, suc, _+_, _-_, _<_, _≤_}
+use native.Mathlib.Omega.{arith}
+use lib.ListN.{getD, length}
+use Rattle.events.specs.Sending.{hopOf}
+use Rattle.fractions.proofs.Cases.{order}
+use Rattle.links.specs.declared.Place.{Place}
+use Rattle.links.specs.Links.{F, R}
+use Rattle.sessions.proofs.Members.{has-high}
+use Rattle.soundness.specs.Sound.{Held, Sound}
+use Rattle.table.specs.Words.{hopFrom, hopsOf, linkOf, pathOf, sourceOf, stopOf}
+use Rattle.table.proofs.Hops.{hop-from-first, hop-of-stop}
+use Rattle.table.proofs.InRange.{path-length, path-stop}
+use Rattle.tasks.specs.declared.Packet.{Packet}
+use Rattle.reachable.specs.Invariant.{PacketOk, SourceOk}
+
+-- THE SAME PATHS ------------------------------------------------------------------------------------------------------
+
+module _ (w v : List ℕ) (s : ℕ) (same : pathOf v s ≡ pathOf w s) where
+  pub hops-same : hopsOf v s ≡ hopsOf w s
+  hops-same = sym (path-length v s) ∙ ap length same ∙ path-length w s
+
+  pub stop-same : (i : ℕ) → i < hopsOf w s → stopOf v s i ≡ stopOf w s i
+  stop-same i h =
+      sym (path-stop v s i 0 (omega (arith, hops-same, h))) ∙ ap (λ (l : List ℕ). getD l i 0) same ∙ path-stop w s i 0 h
+
+  pub hop-same : (e : ℕ) → hopOf v s e ≡ hopOf w s e
+  hop-same e = ap (λ (l : List ℕ). hopFrom 1 l e) same
+
+pub packet-kept : (w v : List ℕ) (q : Packet) → pathOf v (q .session) ≡ pathOf w (q .session) → PacketOk w q → PacketOk v q
+packet-kept w v q same o =
+    let h = hops-same w v (q .session) same in
+    record {
+      within = o .within;
+      known = omega (arith, h, o .known);
+      way = o .way;
+      down = λ d. let u = o .down d in (u .0, omega (arith, h, u .1));
+      up = λ d. omega (arith, h, o .up d);
+    }
+
+-- the links of the path stay declared
+pub source-kept : (w v : List ℕ) (s : ℕ)
+    → pathOf v s ≡ pathOf w s
+    → (sourceOf v s .active ≡ true → 0 < hopsOf w s)
+    → ((i : ℕ) → i < hopsOf w s → 0 < linkOf w (stopOf w s i) .capacity → 0 < linkOf v (stopOf w s i) .capacity)
+    → SourceOk w s
+    → SourceOk v s
+source-kept w v s same a c o =
+    let h = hops-same w v s same in
+    let at : (i : ℕ) → i < hopsOf v s → stopOf v s i ≡ stopOf w s i = λ i l. stop-same w v s same i (omega (arith, h)) in
+    record {
+      joined = λ t. omega (arith, h, a t);
+      declared = λ i l.
+          subst (λ (e : ℕ). 0 < linkOf v e .capacity) (sym (at i l)) (c i (omega (arith, h)) (o .declared i (omega (arith, h))));
+      once = λ i j l k q. o .once i j (omega (arith, h)) k (sym (at j (omega (arith, l, k))) ∙ q ∙ at i l);
+    }
+
+-- THE LINK AT A HOP ---------------------------------------------------------------------------------------------------
+
+-- no link stands twice on the path, so the link at place i has its hop there
+pub hop-at : (w : List ℕ) (s i : ℕ) → SourceOk w s → i < hopsOf w s → hopOf w s (stopOf w s i) ≡ suc i
+hop-at w s i o l =
+    let g : getD (pathOf w s) i 0 ≡ stopOf w s i = path-stop w s i 0 l in
+    let n : i < length (pathOf w s) = omega (arith, path-length w s, l) in
+    let f =
+    hop-from-first 1 (pathOf w s) i 0 n
+    (λ j k q. o .once i j l k (sym (path-stop w s j 0 (omega (arith, l, k))) ∙ q ∙ g)) in
+    ap (hopFrom 1 (pathOf w s)) (sym g) ∙ f ∙ omega arith
+
+-- a link on the path has a hop of it
+pub record OnHop (w : List ℕ) (s e : ℕ) : Type 0 where
+  pub joined : 0 < hopsOf w s
+  pub upto : hopOf w s e ≤ hopsOf w s
+  pub stop : stopOf w s (hopOf w s e - 1) ≡ e
+
+pub hop-on : (w : List ℕ) (s e : ℕ) → 0 < hopOf w s e → OnHop w s e
+hop-on w s e h = go (hopOf w s e) refl
+  where
+    go : (n : ℕ) → hopOf w s e ≡ n → OnHop w s e
+    go zero q = absurd (omega arith)
+    go (suc i) q =
+        let p = hop-of-stop w s e i q in
+        let z : hopOf w s e - 1 ≡ i = omega (arith, q) in
+        record { joined = omega (arith, p .0); upto = omega (arith, p .0, q); stop = ap (stopOf w s) z ∙ p .1 }
+
+-- a session that a link holds is one of the 32
+pub held-session : (p : Place) (s : ℕ) → Sound p → Held p s → s < 32
+held-session p s z h = go (order 32 s)
+  where
+    go : (32 ≤ s) ⊎ (s < 32) → s < 32
+    go (inl b) = absurd (omega (arith, h .some, has-high 32 s (R p) (z .r32) b, has-high 32 s (F p) (z .f32) b))
+    go (inr l) = l

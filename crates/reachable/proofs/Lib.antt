@@ -1,0 +1,23 @@
+-- Theorems of reachable. A crate above cites them as Rattle.reachable.proofs.NAME.
+pub mod PacketLists
+pub mod Follows
+pub mod Kept
+pub mod Lines
+pub mod FitsParts
+pub mod FitsKept
+pub mod Sends
+pub mod SentPackets
+pub mod BurstSets
+pub mod LinkFrame
+pub mod LinesFrame
+pub mod SourceRules
+pub mod Deliveries
+pub mod Unless
+pub mod AtLinks
+pub mod SourceWrites
+pub mod AtEnds
+pub mod LeavesAndChanges
+pub mod Declares
+pub mod Joins
+pub mod EveryRecord
+pub mod ReachablePasses

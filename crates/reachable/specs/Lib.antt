@@ -1,0 +1,3 @@
+-- The definitions that the theorems of reachable cite.
+pub mod Reachable
+pub mod Invariant
