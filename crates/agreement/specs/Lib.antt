@@ -1,0 +1,4 @@
+-- The definitions that the theorems of agreement cite.
+pub mod Lines
+pub mod Agrees
+pub mod Needed
