@@ -1,0 +1,2 @@
+-- Laws of the reports.
+mod Reported

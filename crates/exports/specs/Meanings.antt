@@ -1,0 +1,25 @@
+-- What the reported numbers mean: an accepted calculation is max-min fair (00, demand 2), and settled is 01's five conditions.
+-- Assumes nothing: definitions.
+use mathlib.Core.List.{List}
+use mathlib.Core.Logic.{_⊎_}
+use mathlib.Core.Path.{_≡_}
+use Prim.Native.Nat.{ℕ}
+use lib.ListN.{getD}
+use Rattle.conditions.specs.Conditions.{FiveConditions}
+use Rattle.fairness.specs.Answer.{Answer}
+use Rattle.filling.specs.Lines.{problemOf}
+use Rattle.fractions.specs.Fraction.{frac}
+use Rattle.handed.specs.Passes.{Passes}
+use Rattle.records.specs.Declaring.{declarationsOf}
+
+-- where the report's first word is 0, the slices hold for the declared sessions the rates in lowest terms that are max-min fair
+abbrev pub FairWhereTaken : List ℕ → List ℕ → List ℕ → List ℕ → Type 0
+FairWhereTaken s report nums dens =
+    getD report 0 0 ≡ 0 → Answer (problemOf (declarationsOf s .declared)) (λ t. frac (getD nums t 0) (getD dens t 0))
+
+-- the number of `settled`: 1 under the five conditions, 0 where they do not hold, 14 where the table fails the test of refusal 14; no other
+pub record SettledMeans (w : List ℕ) (n : ℕ) : Type 0 where
+  pub number : (n ≡ 1) ⊎ ((n ≡ 0) ⊎ (n ≡ 14))
+  pub yes : n ≡ 1 → FiveConditions w
+  pub no : n ≡ 0 → FiveConditions w → ⊥
+  pub refused : n ≡ 14 → Passes w → ⊥

@@ -1,0 +1,49 @@
+-- What the exported calls report, as words (include/umbraconga.h): the answers of the library's calls, by 01's numbers.
+-- Assumes nothing: definitions.
+use mathlib.Core.List.{List, [], _∷_}
+use Prim.Native.Nat.{ℕ}
+use Rattle.calculation.specs.Calculating as calculation
+use Rattle.calculation.specs.declared.Calculated.{Calculated}
+use Rattle.ends.specs.declared.Told.{Told}
+use Rattle.ends.specs.declared.Told.the-variants as told
+use Rattle.machine.specs.Machine as machine
+use Rattle.machine.specs.declared.Session.{Session}
+use Rattle.machine.specs.declared.Session.the-variants as session
+use Rattle.machine.specs.declared.SettledAnswer.{SettledAnswer}
+use Rattle.machine.specs.declared.SettledAnswer.the-variants as settled
+use Rattle.records.specs.Refusals.{numberOf}
+use Rattle.records.specs.Run.{Ran}
+use Rattle.records.specs.declared.End.{End}
+
+-- the calculation: the refusal's number or 0, its place, the declared links, the declared sessions
+abbrev pub calculationWords : calculation.Said → List ℕ
+calculationWords x = x .number ∷ x .place ∷ x .links ∷ x .sessions ∷ []
+
+abbrev pub calculationReportOf : Calculated → List ℕ
+calculationReportOf a = calculationWords (calculation.saidOf a)
+
+-- a run, which took some records and then ended: the refusal's number or 0, its place, the records taken
+abbrev pub runWords : machine.Said → List ℕ
+runWords x = x .number ∷ x .place ∷ x .taken ∷ []
+
+abbrev pub endReportOf : ℕ → End → List ℕ
+endReportOf taken e = runWords (machine.saidOf taken e)
+
+abbrev pub runReportOf : Ran (List ℕ) → List ℕ
+runReportOf r = endReportOf (r .taken) (r .end)
+
+-- whether a table is settled: 1 yes, 0 no, or the refusal's number
+abbrev pub settledNumberOf : SettledAnswer → ℕ
+settledNumberOf settled.Yes = 1
+settledNumberOf settled.No = 0
+settledNumberOf (settled.Refused r place) = numberOf r
+
+-- an active session: 1, and the rate last told, or 0 and 0 where none was
+abbrev pub toldReportOf : Told → List ℕ
+toldReportOf told.Never = 1 ∷ 0 ∷ 0 ∷ []
+toldReportOf (told.Rate x) = 1 ∷ x .num ∷ x .den ∷ []
+
+-- a session: whether it is active, and what it was last told
+abbrev pub sessionReportOf : Session → List ℕ
+sessionReportOf session.NotActive = 0 ∷ 0 ∷ 0 ∷ []
+sessionReportOf (session.Active x) = toldReportOf x
