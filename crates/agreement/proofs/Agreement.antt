@@ -2,7 +2,7 @@
 -- Assumes nothing.
 use mathlib.Core.Bool.{Bool, cond, false, true}
 use mathlib.Core.List.{List}
-use mathlib.Core.Path.{_≡_, ap, refl, sym, _∙_}
+use mathlib.Core.Path.{_≡_, ap, refl, subst, sym, _∙_}
 use Prim.Native.Nat.{ℕ, _<_}
 use native.Mathlib.Omega.{arith}
 use borrow.Author.Tests.{lt-ltb}
@@ -14,7 +14,6 @@ use Rattle.conditions.proofs.Means.{settled-means}
 use Rattle.ends.specs.declared.Told.the-variants as told
 use Rattle.handed.specs.Handed.{passes14Of}
 use Rattle.machine.specs.declared.Session.the-variants as session
-use Rattle.machine.specs.declared.SettledAnswer.{SettledAnswer}
 use Rattle.machine.specs.declared.SettledAnswer.the-variants as settled
 use Rattle.machine.specs.Machine.{answerOf, machineOf, sessionOf}
 use Rattle.reachable.specs.Reachable.{Reachable, empty, ran}
@@ -33,7 +32,7 @@ use Rattle.agreement.proofs.SettledEntries.{conditions-needed, settled-
 use Rattle.agreement.proofs.SettledRates.{settled-answer}
 use Rattle.agreement.proofs.TableDeclares.{table-declares}
 
--- the answer is yes where the five conditions hold
+-- the answer is yes only where the test of settled passes
 yes-settled : (p q : Bool) → cond p (cond q settled.Yes settled.No) (settled.Refused refusal.BadTable 0) ≡ settled.Yes → q ≡ true
 yes-settled true true e = refl
 yes-settled true false e = absurd (let z : _≡_ {A = ℕ} 0 1 = cc in omega arith)
@@ -64,8 +63,19 @@ settled-agrees w r says = record { rates = has-calculated-rate w r says (declara
 
 -- THE SAME FROM THE USER'S SIDE ---------------------------------------------------------------------------------------
 
--- any input bytes on the empty table, after which `settled` says yes, and any call of `calculate` that accepts records of the same links and active
--- sessions: what it writes is what each active session was told
+-- any table that is reached and of which `settled` says yes, and any call of `calculate` that accepts records of the same links and active sessions: it
+-- writes the rates that the sessions have
+pub calculate-agrees : (w : List ℕ) → Reachable w → answerOf w ≡ settled.Yes
+    → (records nums dens places : List ℕ) (links sessions : ℕ)
+    → calculateOf records nums dens places .answer ≡ calculated.Done links sessions
+    → Declares (declarationsOf records .declared) w
+    → (s : ℕ) → s < 32 → Active w s
+    → HasRate w s (writtenRate (calculateOf records nums dens places) s)
+calculate-agrees w r says records nums dens places links sessions done l s h a =
+    subst (HasRate w s) (sym (calculate-writes records nums dens places links sessions done s h (l .active s h ∙ a)))
+    (has-calculated-rate w r says (declarationsOf records .declared) l s h a)
+
+-- and so for any input bytes on the empty table: what it writes for an active session is what the machine last told it
 pub run-agrees : (input : List ℕ) → Bytes input
     → answerOf (machineOf emptyWords input .state) ≡ settled.Yes
     → (records nums dens places : List ℕ) (links sessions : ℕ)
@@ -76,8 +86,5 @@ pub run-agrees : (input : List ℕ) → Bytes input
 unfolding sessionOf
 run-agrees input bytes says records nums dens places links sessions done l s h a =
     let w = machineOf emptyWords input .state in
-    let d = declarationsOf records .declared in
-    let r = has-calculated-rate w (ran empty input bytes) says d l s h a in
-    let e : sourceOf w s .told ≡ told.Rate (writtenRate (calculateOf records nums dens places) s) =
-    r .told ∙ ap told.Rate (sym (calculate-writes records nums dens places links sessions done s h (l .active s h ∙ a))) in
-    rw (lt-ltb s 32 h, a) (ap session.Active e)
+    let r = calculate-agrees w (ran empty input bytes) says records nums dens places links sessions done l s h a in
+    rw (lt-ltb s 32 h, a) (ap session.Active (r .told))

@@ -6,7 +6,6 @@ use mathlib.Core.List.{List}
 use mathlib.Core.Path.{_≡_, ap₂, refl, sym, _∙_}
 use Prim.Native.Nat.{ℕ, _<_}
 use borrow.Author.Tests.{eqb-true}
-use lib.ListN.{getD}
 use Rattle.calculation.proofs.Outcomes.{ordered-of}
 use Rattle.calculation.proofs.SameResults.{active}
 use Rattle.calculation.specs.Calculating.{calculateOf, resultsOf}

@@ -4,7 +4,7 @@
 use mathlib.Core.Bool.{Bool, false, true}
 use mathlib.Core.List.{List}
 use mathlib.Core.Path.{_≡_, ap, refl, subst, _∙_}
-use Prim.Native.Nat.{ℕ, zero, suc, _<_}
+use Prim.Native.Nat.{ℕ, _-_, _<_}
 use native.Mathlib.Omega.{arith}
 use Rattle.conditions.specs.Conditions.{Active, FiveConditions, OnPath}
 use Rattle.ends.specs.declared.Told.the-variants as told
@@ -15,7 +15,7 @@ use Rattle.links.specs.Links.{holds, rateAt}
 use Rattle.table.specs.Values.{SourceWithin, ToldWithin}
 use Rattle.table.specs.Words.{hopFrom, pathOf, placeOf, sourceOf}
 use Rattle.table.proofs.FitsMeans.{entry-fits-means, source-fits-means}
-use Rattle.table.proofs.Hops.{hop-of-stop}
+use Rattle.reachable.proofs.Kept.{hop-on}
 use Rattle.table.proofs.InRange.{stop-below}
 use Rattle.agreement.specs.Needed.{Needed}
 
@@ -25,7 +25,7 @@ conditions-needed w c = record {
   a = omega (arith, c .a);
   b = λ s l h e o.
       let g = c .b s (omega arith) h .links e o in
-      record { held = g .held; rate = record { cross = omega (arith, g .rate .cross) } };
+      record { held = g .held; rate = g .rate };
   c = λ e l. record { restricted = λ s k r. c .c e (omega arith) .restricted s (omega arith) r; free = λ s k r. c .c e (omega arith) .free s (omega arith) r };
   d = λ s l h. c .d s (omega arith) h;
   e = λ s l h. c .e s (omega arith) h;
@@ -36,11 +36,7 @@ on-path-below w s e o = subst (λ (i : ℕ). i < 64) (o .stop) (stop-below w s (
 
 -- a link that has a hop is on the path
 hop-on-path : (w : List ℕ) (s e : ℕ) → 0 < hopFrom 1 (pathOf w s) e → OnPath w s e
-hop-on-path w s e h = go (hopFrom 1 (pathOf w s) e) refl
-  where
-    go : (n : ℕ) → hopFrom 1 (pathOf w s) e ≡ n → OnPath w s e
-    go zero q = absurd (omega arith)
-    go (suc i) q = let a = hop-of-stop w s e i q in record { place = i; within = a .0; stop = a .1 }
+hop-on-path w s e h = let o = hop-on w s e h in record { place = hopFrom 1 (pathOf w s) e - 1; within = omega (arith, o .upto); stop = o .stop }
 
 module _ (w : List ℕ) (o : Passes w) where
   -- the rates that the source of an active session keeps are in lowest terms
@@ -65,7 +61,7 @@ module _ (w : List ℕ) (o : Passes w) where
     settled-links s l a e h =
         let there = c .b s (omega arith) a e h in
         let entry : Within maxRate (rateAt (placeOf w e) s) = entry-fits-means w e s l (o .entries e s (on-path-below w s e h) l (there .held)) in
-        lowest-unique (entry .lowest) (source-of-active s l a .rate .lowest) (record { cross = omega (arith, there .rate .cross) })
+        lowest-unique (entry .lowest) (source-of-active s l a .rate .lowest) (there .rate)
 
     -- which is the rate last told
     pub settled-told : (s : ℕ) → s < 32 → Active w s → sourceOf w s .told ≡ told.Rate (sourceOf w s .rate)

@@ -1,4 +1,4 @@
--- What the agreement takes from the five conditions (01, "Settled"). It needs every one of them, but not all that they say: not that a session is
+-- What the agreement takes from the five conditions (01, "Settled"). It takes something of every one, but not all that they say: not that a session is
 -- idle and has noted no update (b), and not that F sums to at most C where R is empty (c), which the test of refusal 14 asks of every link.
 -- Assumes nothing: definitions.
 use mathlib.Core.Bool.{true}

@@ -2,7 +2,6 @@
 -- values of rates and not of partial sums, so it holds of a link in the midst of a rule too, where a partial sum may be too fine.
 -- Assumes nothing: definitions.
 use mathlib.Core.List.{List}
-use mathlib.Core.Path.{_≡_}
 use Prim.Native.Nat.{ℕ, _+_, _*_, _^_, _≤_, _<_}
 use lib.ListN.{getD}
 use Rattle.fairness.specs.Sum.{sum}
