@@ -1,35 +1,35 @@
 -- A delivery takes its packet out of the list: the packets before it and behind it, that no Leave overtakes a Join, and the table without it.
 -- Assumes nothing.
-use mathlib.Core.Bool.{Bool, cond, false, not, true, _&&_}
-use mathlib.Core.List.{List, [], _∷_, _++_}
-use mathlib.Core.Path.{_≡_, ap, ap₂, refl, subst, sym, _∙_}
-use Prim.Native.Nat.{ℕ, zero, suc, _-_, _<_, _≤_}
+use mathlib.Core.Bool.{not, true, _&&_}
+use mathlib.Core.List.{List, _∷_, _++_}
+use mathlib.Core.Path.{_≡_, ap, ap₂, subst, sym, _∙_}
+use Prim.Native.Nat.{ℕ, suc, _-_, _<_}
 use native.Mathlib.Omega.{arith}
 use borrow.Author.Tests.{eq-eqb}
-use lib.Dec.{eqb}
-use lib.ListN.{drop, getD, length, take}
+use lib.ListN.{drop, length, take}
 use lib.Seq.{getD-take, length-take-le, split-at}
 use Rattle.events.specs.Sending.{inTurnOf, sameLane, sameWay}
 use Rattle.fractions.proofs.Cases.{not-true}
 use Rattle.records.proofs.Alls.{all-at}
 use Rattle.records.proofs.Somes.{clash}
-use Rattle.soundness.specs.LinkDid.{isJoin}
 use Rattle.table.specs.Words.{countOf, packetOf, packetsOf, removed}
 use Rattle.table.proofs.Packets.{count-removed, length-packets, packets-at, packets-removed}
 use Rattle.tasks.specs.declared.Packet.{Packet}
-use Rattle.tasks.specs.Packets.{goesDown, isLeave}
 use Rattle.reachable.specs.Invariant.{Every, Fits, Inv, PacketOk}
 use Rattle.reachable.proofs.FitsKept.{fits-removed}
 use Rattle.reachable.proofs.Follows.{NotOvertaken}
 use Rattle.reachable.proofs.Lines.{SameLines, lines-removed}
-use Rattle.reachable.proofs.LinkFrame.{before-ok, behind-ok}
-use Rattle.reachable.proofs.PacketLists.{every-append, every-at, every-index}
+use Rattle.reachable.proofs.PacketLists.{every-at, every-index, every-without}
 use Rattle.reachable.proofs.SentPackets.{join-down, leave-down}
 
-pub packet-at : (w : List ℕ) (i : ℕ) → Inv w → i < countOf w → PacketOk w (packetOf w i)
-packet-at w i v h =
+-- what holds of every packet in flight holds of the one at place i
+pub each-at : (P : Packet → Type 0) (w : List ℕ) (i : ℕ) → i < countOf w → Every P (packetsOf w) → P (packetOf w i)
+each-at P w i h f =
     let z = packetOf w i in
-    subst (PacketOk w) (packets-at w i z h) (every-at z (packetsOf w) i (omega (arith, length-packets w)) (v .packets))
+    subst P (packets-at w i z h) (every-at z (packetsOf w) i (omega (arith, length-packets w)) f)
+
+pub packet-at : (w : List ℕ) (i : ℕ) → Inv w → i < countOf w → PacketOk w (packetOf w i)
+packet-at w i v h = each-at (PacketOk w) w i h (v .packets)
 
 same-lane : (p q : Packet) → p .session ≡ q .session → p .hop ≡ q .hop → p .down ≡ true → q .down ≡ true → sameLane p q ≡ true
 same-lane p q s h d e =
@@ -42,12 +42,16 @@ module _ (w : List ℕ) (i : ℕ) (v : Inv w) (h : i < countOf w) where
   abbrev pub behind : List Packet
   behind = drop (suc i) (packetsOf w)
 
+  -- the packets but the one that is delivered
+  abbrev pub rest : List Packet
+  rest = before ++ behind
+
   pub parted : packetsOf w ≡ before ++ packetOf w i ∷ behind
   parted =
       let z = packetOf w i in
       split-at (packetsOf w) i z (omega (arith, length-packets w)) ∙ ap (λ (p : Packet). before ++ p ∷ behind) (packets-at w i z h)
 
-  pub taken-out : packetsOf (removed w i) ≡ before ++ behind
+  pub taken-out : packetsOf (removed w i) ≡ rest
   taken-out = packets-removed w i (v .fits .long) h
 
   -- an earlier packet of the same session, hop and direction would be delivered first
@@ -70,8 +74,12 @@ module _ (w : List ℕ) (i : ℕ) (v : Inv w) (h : i < countOf w) where
             (not-true (sameLane q p) (all-at i (λ j. not (sameLane (packetOf w j) (packetOf w i))) j t l));
       }
 
-  pub rest-ok : Every (PacketOk w) (before ++ behind)
-  rest-ok = every-append before behind (before-ok w v (packetOf w i) before behind parted) (behind-ok w v (packetOf w i) before behind parted)
+  -- what holds of every packet in flight holds of the others
+  pub each-other : (P : Packet → Type 0) → Every P (packetsOf w) → Every P rest
+  each-other P f = every-without before (packetOf w i) behind (subst (Every P) parted f)
+
+  pub rest-ok : Every (PacketOk w) rest
+  rest-ok = each-other (PacketOk w) (v .packets)
 
   pub fewer : countOf (removed w i) ≡ countOf w - 1
   fewer = count-removed w i (v .fits .long)

@@ -75,7 +75,7 @@ fits-appended w p h g f =
 
 -- LINKS AND THEIR ENTRIES ---------------------------------------------------------------------------------------------
 
-sound-in-range : {p : Place} → Sound p → PlaceInRange p
+pub sound-in-range : {p : Place} → Sound p → PlaceInRange p
 sound-in-range s = record {
   link = record { capacity = s .workable .capacity; r = s .r32; f = s .f32 };
   entries = record { all = s .workable .rates .many; rate = s .workable .rates .sized };

@@ -1,92 +1,28 @@
 -- A join keeps the invariant.
 -- Assumes nothing.
-use mathlib.Core.Bool.{Bool, false, not, true, _&&_}
-use mathlib.Core.List.{List, [], _∷_, _++_}
-use mathlib.Core.Path.{_≡_, ap, refl, subst, sym, _∙_}
+use mathlib.Core.Bool.{Bool, true}
+use mathlib.Core.List.{List, [], _∷_}
+use mathlib.Core.Path.{_≡_, ap, subst, sym, _∙_}
 use Prim.Native.Nat.{ℕ, _+_, _<_, _≤_}
 use native.Mathlib.Decide.{ℕ-discrete}
-use native.Mathlib.Omega.{arith}
-use borrow.Author.Tests.{eqb-false, leb-true, ltb-true}
-use lib.Dec.{eqb, leb, ltb}
-use lib.ListN.{drop, getD, length, take}
-use lib.Seq.{getD-drop, getD-take}
+use lib.ListN.{length}
 use Rattle.ends.specs.declared.Source.{Source}
-use Rattle.ends.specs.Figure3.{D, joiningOf}
-use Rattle.events.specs.Events.{Step, declaredIn, joinOf, pathDeclaredIn, sourceSends}
-use Rattle.events.specs.Sending.{hopOf, noneOf, sentFrom}
-use Rattle.fractions.proofs.Cases.{and-both, cases, not-true}
-use Rattle.fractions.proofs.Ranges.{whole-within}
-use Rattle.fractions.specs.Fraction.{wholeOf}
+use Rattle.events.specs.Events.{joinOf}
+use Rattle.events.specs.Sending.{hopOf}
+use Rattle.fractions.specs.declared.Rate.{Rate}
 use Rattle.links.specs.declared.Place.{Place}
 use Rattle.links.specs.Links.{B, isFine}
-use Rattle.records.proofs.Alls.{all-at}
 use Rattle.records.proofs.Somes.{clash}
-use Rattle.records.specs.Format.{differ, isNew, linksOk, pathOk, restOk}
+use Rattle.records.specs.Format.{pathOk}
 use Rattle.soundness.specs.Sound.{Held, Sound}
-use Rattle.table.specs.Values.{SourceWithin}
-use Rattle.table.specs.Words.{countOf, hopsOf, linkOf, packetOf, packetsOf, pathOf, placeOf, putHops, putPath, putSource, sourceOf, stopOf}
-use Rattle.table.proofs.FitsMeans.{source-within}
-use Rattle.table.proofs.InRange.{path-stop, stop-below}
-use Rattle.table.proofs.Packets.{length-packets, packets-at}
-use Rattle.table.proofs.Places.{length-put-hops, length-put-path}
-use Rattle.table.proofs.ReadBack.{hops-back, path-back-hops-last, source-back}
-use Rattle.table.proofs.Unchanged.{count-after-hops, count-after-path, count-after-source, hops-after-source, link-after-hops, link-after-path, packets-after-hops, packets-after-path, packets-after-source, path-after-source, path-other-hops, path-other-path, row-after-hops, row-after-path, source-after-hops, source-after-path, source-other}
-use Rattle.tasks.specs.declared.Eta.the-variants as eta
-use Rattle.tasks.specs.declared.Kind.the-variants as kind
+use Rattle.table.specs.Words.{packetsOf, placeOf, stopOf}
+use Rattle.table.proofs.InRange.{stop-below}
 use Rattle.tasks.specs.declared.Packet.{Packet}
-use Rattle.reachable.specs.Invariant.{AllFollowed, EntryOk, Every, Inv, LeaveFor, PacketOk, Reaches, SourceOk, activeIn, also, end, next, none}
-use Rattle.reachable.proofs.FitsKept.{fits-join}
-use Rattle.reachable.proofs.Kept.{hop-same, hops-same, packet-kept, source-kept}
+use Rattle.reachable.specs.Invariant.{AllFollowed, EntryOk, Every, Inv, PacketOk, Reaches, SourceOk, activeIn, also, end, next, none}
+use Rattle.reachable.proofs.JoinSteps.{Joined, join-either, theJoin}
+use Rattle.reachable.proofs.Kept.{hop-same, packet-kept, source-kept}
 use Rattle.reachable.proofs.LeavesAndChanges.{followed-append}
-use Rattle.reachable.proofs.PacketLists.{every-append, every-index, every-map, none-some, some-left}
-use Rattle.reachable.proofs.Sends.{Sent, all-sent, appendedAll}
-use Rattle.reachable.proofs.SentPackets.{sent-ok}
-use Rattle.reachable.proofs.SourceRules.{limit-within}
-use Rattle.reachable.proofs.SourceWrites.{place-after-source}
-use Rattle.reachable.proofs.Unless.{unless-many}
-
--- THE PATH OF A RECORD ------------------------------------------------------------------------------------------------
-
--- n links from a place of the bytes on: 1 to 8 of them, below 64, none twice
-pub record Path (bytes : List ℕ) (at n : ℕ) : Type 0 where
-  pub some : 0 < n
-  pub most : n ≤ 8
-  pub link : (i : ℕ) → i < n → getD bytes (at + i) 0 < 64
-  pub once : (i j : ℕ) → i < n → j < i → getD bytes (at + j) 0 ≡ getD bytes (at + i) 0 → ⊥
-
-path-is : (bytes : List ℕ) (at n : ℕ) → pathOk bytes at n ≡ true → Path bytes at n
-unfolding pathOk linksOk differ isNew
-path-is bytes at n h =
-    let a = and-both (ltb 0 n) (leb n 8 && (linksOk bytes at n && (differ bytes at n && restOk bytes at n))) h in
-    let b = and-both (leb n 8) (linksOk bytes at n && (differ bytes at n && restOk bytes at n)) (a .1) in
-    let c = and-both (linksOk bytes at n) (differ bytes at n && restOk bytes at n) (b .1) in
-    let d = and-both (differ bytes at n) (restOk bytes at n) (c .1) in
-    record {
-      some = ltb-true 0 n (a .0);
-      most = leb-true n 8 (b .0);
-      link = λ i l. ltb-true (getD bytes (at + i) 0) 64 (all-at n (λ h. ltb (getD bytes (at + h) 0) 64) i (c .0) l);
-      once = λ i j l k.
-          eqb-false (getD bytes (at + j) 0) (getD bytes (at + i) 0)
-          (not-true (eqb (getD bytes (at + j) 0) (getD bytes (at + i) 0))
-          (all-at i (λ g. not (eqb (getD bytes (at + g) 0) (getD bytes (at + i) 0))) j (all-at n (λ h. isNew bytes at h (getD bytes (at + h) 0)) i (d .0) l) k));
-    }
-
-path-declared : (w bytes : List ℕ) (at n : ℕ) → pathDeclaredIn w bytes at n ≡ true → (i : ℕ) → i < n → 0 < linkOf w (getD bytes (at + i) 0) .capacity
-unfolding pathDeclaredIn
-path-declared w bytes at n h i l =
-    let e = getD bytes (at + i) 0 in
-    ltb-true 0 (linkOf w e .capacity) (and-both (ltb e 64) (declaredIn w e) (all-at n (λ h. ltb (getD bytes (at + h) 0) 64 && declaredIn w (getD bytes (at + h) 0)) i h l) .1)
-
--- no packet of the session is in flight
-none-of : (w : List ℕ) (s : ℕ) → noneOf w s (countOf w) ≡ true → Every (λ q. q .session ≡ s → ⊥) (packetsOf w)
-unfolding noneOf
-none-of w s h =
-    let z = packetOf w 0 in
-    every-index z (packetsOf w)
-    (λ i l.
-    let k : i < countOf w = omega (arith, l, length-packets w) in
-    subst (λ (q : Packet). q .session ≡ s → ⊥) (sym (packets-at w i z k))
-    (eqb-false (packetOf w i .session) s (not-true (eqb (packetOf w i .session) s) (all-at (countOf w) (λ i. not (eqb (packetOf w i .session) s)) i h k))))
+use Rattle.reachable.proofs.PacketLists.{every-append, every-both, every-map, some-left}
 
 -- sessions that have no packet do not count
 followed-other : (f g : ℕ → Bool) (w : List ℕ) (s : ℕ) (b l : List Packet) → ((r : ℕ) → r < 32 → (r ≡ s → ⊥) → g r ≡ f r) → Every (PacketOk w) l
@@ -97,157 +33,52 @@ followed-other f g w s b [] h none none end = end
 followed-other f g w s b (q ∷ l) h (also o e) (also n m) (next k c) =
     next (λ j t. k j (sym (h (q .session) (o .within .session) n) ∙ t)) (followed-other f g w s (q ∷ b) l h e m c)
 
-every-both : {P Q : Packet → Type 0} (l : List Packet) → Every P l → Every Q l → Every (λ q. P q × Q q) l
-every-both [] none none = none
-every-both (q ∷ l) (also a b) (also c d) = also (a, c) (every-both l b d)
-
--- THE TABLE AFTER A JOIN ----------------------------------------------------------------------------------------------
-
-module _ (w : List ℕ) (i : Inv w) (s : ℕ) (ls : s < 32) (bytes : List ℕ) (at n : ℕ) (path : Path bytes at n) (whole : at + 8 ≤ length bytes)
-    (declared : (i : ℕ) → i < n → 0 < linkOf w (getD bytes (at + i) 0) .capacity) (left : activeIn w s ≡ false)
-    (none-left : Every (λ q. q .session ≡ s → ⊥) (packetsOf w)) (z : Source) (o : SourceWithin z) (active : z .active ≡ true) (few : countOf w + 1 ≤ 256) where
-  abbrev routed : List ℕ
-  routed = putHops (putPath w s bytes at) s n
-
-  abbrev written : List ℕ
-  written = putSource routed s z
-
-  abbrev join : Packet
-  join = sentFrom s 0 (kind.Join (wholeOf (D z)) eta.Own)
-
-  abbrev v : List ℕ
-  v = appendedAll written (join ∷ [])
-
-  routed-long : length routed ≡ 9153
-  routed-long = length-put-hops (putPath w s bytes at) s n ∙ length-put-path w s bytes at ∙ i .fits .long
-
-  written-count : countOf written ≡ countOf w
-  written-count = count-after-source routed s z ls ∙ count-after-hops (putPath w s bytes at) s n ls ∙ count-after-path w s bytes at ls
-
-  -- the Join is a packet in range
-  all : Sent written v (join ∷ [])
-  all =
-      all-sent written (join ∷ []) (fits-join w s n bytes at z ls (path .most) (path .some) (path .link) o (i .fits)) (omega (arith, few, written-count))
-      (also (record { session = ls; hop = omega arith; kind = (limit-within z (o .access), tt) }) none)
-
-  places : (e : ℕ) → e < 64 → placeOf v e ≡ placeOf w e
-  places e l =
-      all .lines .place e l
-      ∙ place-after-source routed s z e ls l
-      ∙ rw (
-        link-after-hops (putPath w s bytes at) s n e ls l,
-        link-after-path w s bytes at e ls l,
-        row-after-hops (putPath w s bytes at) s n e ls l,
-        row-after-path w s bytes at e ls l,
-      )
-
-  joined-source : sourceOf v s ≡ z
-  joined-source = all .lines .source s ls ∙ source-back routed s z routed-long ls (source-within o)
-
-  other-source : (r : ℕ) → r < 32 → (r ≡ s → ⊥) → sourceOf v r ≡ sourceOf w r
-  other-source r l m =
-      all .lines .source r l
-      ∙ source-other routed s z r m
-      ∙ source-after-hops (putPath w s bytes at) s n r ls l
-      ∙ source-after-path w s bytes at r ls l
+module _ (w : List ℕ) (i : Inv w) (s : ℕ) (x : Rate) (v : List ℕ) (a : Joined w s x v) where
+  abbrev sent : List Packet
+  sent = theJoin s x ∷ []
 
   other-active : (r : ℕ) → r < 32 → (r ≡ s → ⊥) → activeIn v r ≡ activeIn w r
-  other-active r l m = ap (λ (y : Source). y .active) (other-source r l m)
-
-  other-path : (r : ℕ) → r < 32 → (r ≡ s → ⊥) → pathOf v r ≡ pathOf w r
-  other-path r l m =
-      all .lines .path r l
-      ∙ path-after-source routed s z r ls l
-      ∙ path-other-hops (putPath w s bytes at) s n r m
-      ∙ path-other-path w s bytes at r m
-
-  joined-hops : hopsOf v s ≡ n
-  joined-hops =
-      all .lines .hops s ls
-      ∙ hops-after-source routed s z s ls ls
-      ∙ hops-back (putPath w s bytes at) s n (length-put-path w s bytes at ∙ i .fits .long) ls (path .most)
-
-  joined-stop : (j : ℕ) → j < n → stopOf v s j ≡ getD bytes (at + j) 0
-  joined-stop j l =
-      sym (path-stop v s j 0 (omega (arith, joined-hops)))
-      ∙ ap (λ (x : List ℕ). getD x j 0)
-      (all .lines .path s ls ∙ path-after-source routed s z s ls ls ∙ path-back-hops-last w s n bytes at (i .fits .long) ls (path .most) whole (path .link))
-      ∙ getD-take n (drop at bytes) j 0 l
-      ∙ getD-drop at bytes j 0
-
-  packets : packetsOf v ≡ packetsOf w ++ join ∷ []
-  packets =
-      all .packets
-      ∙ ap (λ (l : List Packet). l ++ join ∷ [])
-      (packets-after-source routed s z ls ∙ packets-after-hops (putPath w s bytes at) s n ls ∙ packets-after-path w s bytes at ls)
-
-  -- the session has no entry yet
-  no-entry : (e : ℕ) → e < 64 → Held (placeOf w e) s → ⊥
-  no-entry e l h =
-      none-some (packetsOf w) (every-map (packetsOf w) (λ q m u. m (u .session)) none-left) (i .entry e s l ls h .live left)
-
-  joined-ok : SourceOk v s
-  joined-ok = record {
-    joined = λ t. omega (arith, joined-hops, path .some);
-    declared = λ j l.
-        let k : j < n = omega (arith, joined-hops, l) in
-        subst (λ (e : ℕ). 0 < linkOf v e .capacity) (sym (joined-stop j k))
-        (subst (λ (x : Place). 0 < x .link .capacity) (sym (places (getD bytes (at + j) 0) (path .link j k))) (declared j k));
-    once = λ j k l m q.
-        let a : j < n = omega (arith, joined-hops, l) in
-        path .once j k a m (sym (joined-stop k (omega (arith, a, m))) ∙ q ∙ joined-stop j a);
-  }
+  other-active r l m = ap (λ (y : Source). y .active) (a .sources r l m)
 
   source : (r : ℕ) → r < 32 → Dec (r ≡ s) → SourceOk v r
-  source r l (yes q) = subst (SourceOk v) (sym q) joined-ok
+  source r l (yes q) = subst (SourceOk v) (sym q) (a .path)
   source r l (no m) =
-      source-kept w v r (other-path r l m) (λ t. i .source r l .joined (sym (other-active r l m) ∙ t))
-      (λ j k c. subst (λ (x : Place). 0 < x .link .capacity) (sym (places (stopOf w r j) (stop-below w r j))) c) (i .source r l)
+      source-kept w v r (a .paths r l m) (λ t. i .source r l .joined (sym (other-active r l m) ∙ t))
+      (λ j k c. subst (λ (x : Place). 0 < x .link .capacity) (sym (a .places (stopOf w r j) (stop-below w r j))) c) (i .source r l)
 
   entry : (e r : ℕ) → e < 64 → r < 32 → Dec (r ≡ s) → Held (placeOf w e) r → EntryOk v e r
-  entry e r l k (yes q) h = absurd (no-entry e l (subst (Held (placeOf w e)) q h))
+  entry e r l k (yes q) h = absurd (a .no-entry e l (subst (Held (placeOf w e)) q h))
   entry e r l k (no m) h =
       let u = i .entry e r l k h in
-      let a = hop-same w v r (other-path r k m) e in
+      let b = hop-same w v r (a .paths r k m) e in
       record {
-        on-path = subst (λ (x : ℕ). 0 < x) (sym a) (u .on-path);
+        on-path = subst (λ (x : ℕ). 0 < x) (sym b) (u .on-path);
         live = λ t.
-            subst (λ (x : ℕ). Reaches r x (packetsOf v)) (sym a)
-            (subst (Reaches r (hopOf w r e)) (sym packets) (some-left (packetsOf w) (join ∷ []) (u .live (sym (other-active r k m) ∙ t))));
+            subst (λ (x : ℕ). Reaches r x (packetsOf v)) (sym b)
+            (subst (Reaches r (hopOf w r e)) (sym (a .packets)) (some-left (packetsOf w) sent (u .live (sym (other-active r k m) ∙ t))));
       }
 
   joined-kept : Inv v
   joined-kept = record {
-    fits = all .fits;
-    place = λ e l. subst Sound (sym (places e l)) (i .place e l);
-    fine = λ e l. subst (λ (x : Place). isFine (B x) ≡ true) (sym (places e l)) (i .fine e l);
+    fits = a .fits;
+    place = λ e l. subst Sound (sym (a .places e l)) (i .place e l);
+    fine = λ e l. subst (λ (x : Place). isFine (B x) ≡ true) (sym (a .places e l)) (i .fine e l);
     source = λ r l. source r l (ℕ-discrete r s);
-    packets = subst (Every (PacketOk v)) (sym packets)
-        (every-append (packetsOf w) (join ∷ [])
-        (every-map (packetsOf w) (λ q u. packet-kept w v q (other-path (q .session) (u .0 .within .session) (u .1)) (u .0)) (every-both (packetsOf w) (i .packets) none-left))
-        (also (sent-ok v s 0 (kind.Join (wholeOf (D z)) eta.Own) ls (omega (arith, joined-hops, path .some)) (λ t. omega arith) (omega arith) (limit-within z (o .access), tt)) none));
-    entry = λ e r l k h. entry e r l k (ℕ-discrete r s) (subst (λ (x : Place). Held x r) (places e l) h);
-    joins = subst (AllFollowed (activeIn v) []) (sym packets)
-        (followed-append (activeIn v) w (packetsOf w) (join ∷ []) (i .packets)
-        (followed-other (activeIn w) (activeIn v) w s [] (packetsOf w) other-active (i .packets) none-left (i .joins))
-        (λ c f. next (λ j t. absurd (clash (activeIn v s) (ap (λ (y : Source). y .active) joined-source ∙ active) t)) end));
+    packets = subst (Every (PacketOk v)) (sym (a .packets))
+        (every-append (packetsOf w) sent
+        (every-map (packetsOf w) (λ q u. packet-kept w v q (a .paths (q .session) (u .0 .within .session) (u .1)) (u .0))
+        (every-both (packetsOf w) (i .packets) (a .no-packet)))
+        (also (a .join) none));
+    entry = λ e r l k h. entry e r l k (ℕ-discrete r s) (subst (λ (x : Place). Held x r) (a .places e l) h);
+    joins = subst (AllFollowed (activeIn v) []) (sym (a .packets))
+        (followed-append (activeIn v) w (packetsOf w) sent (i .packets)
+        (followed-other (activeIn w) (activeIn v) w s [] (packetsOf w) other-active (i .packets) (a .no-packet) (i .joins))
+        (λ c f. next (λ j t. absurd (clash (activeIn v s) (a .active) t)) end));
   }
 
 pub join-kept : (bytes w : List ℕ) (s access maximum n at : ℕ) → s < 32 → 0 < access → access ≤ 1000000 → maximum ≤ 1000000 → pathOk bytes at n ≡ true
     → at + 8 ≤ length bytes
     → Inv w
     → Inv (joinOf bytes w s access maximum n at .words)
-unfolding joinOf sourceSends joiningOf appendedAll
 join-kept bytes w s access maximum n at ls a0 a1 m1 ok whole i =
-    cases (λ (x : Step). Inv (x .words)) (sourceOf w s .active) _ _ (λ t. i)
-    (λ t.
-    cases (λ (x : Step). Inv (x .words)) (pathDeclaredIn w bytes at n) _ _
-    (λ d.
-    cases (λ (x : Step). Inv (x .words)) (noneOf w s (countOf w)) _ _
-    (λ e.
-    unless-many _ w _ i
-    (λ few.
-    joined-kept w i s ls bytes at n (path-is bytes at n ok) whole (path-declared w bytes at n d) t (none-of w s e) _
-    (record { joined = a0; access = a1; maximum = m1; rate = whole-within (omega arith); told = tt }) refl few))
-    (λ e. i))
-    (λ d. i))
+    join-either Inv bytes w s access maximum n at ls a0 a1 m1 ok whole i i (λ x v a. joined-kept w i s x v a)

@@ -4,7 +4,7 @@ use mathlib.Core.Bool.{true}
 use mathlib.Core.List.{List}
 use mathlib.Core.Logic.{_⊎_, inl, inr}
 use mathlib.Core.Path.{_≡_, ap, refl, subst, sym, _∙_}
-use Prim.Native.Nat.{ℕ, zero, suc, _+_, _-_, _<_, _≤_}
+use Prim.Native.Nat.{ℕ, zero, suc, _-_, _<_, _≤_}
 use native.Mathlib.Omega.{arith}
 use lib.ListN.{getD, length}
 use Rattle.events.specs.Sending.{hopOf}
@@ -87,6 +87,11 @@ hop-on w s e h = go (hopOf w s e) refl
         let p = hop-of-stop w s e i q in
         let z : hopOf w s e - 1 ≡ i = omega (arith, q) in
         record { joined = omega (arith, p .0); upto = omega (arith, p .0, q); stop = ap (stopOf w s) z ∙ p .1 }
+
+-- at each hop of the path stands one link
+pub same-hop : (w : List ℕ) (s e f : ℕ) → 0 < hopOf w s e → hopOf w s f ≡ hopOf w s e → f ≡ e
+same-hop w s e f h q =
+    sym (hop-on w s f (omega (arith, h, q)) .stop) ∙ ap (λ (n : ℕ). stopOf w s (n - 1)) q ∙ hop-on w s e h .stop
 
 -- a session that a link holds is one of the 32
 pub held-session : (p : Place) (s : ℕ) → Sound p → Held p s → s < 32

@@ -3,7 +3,7 @@
 use mathlib.Core.Bool.{Bool, false, true}
 use mathlib.Core.List.{List, [], _∷_, _++_}
 use mathlib.Core.Logic.{_⊎_, inl, inr}
-use mathlib.Core.Path.{_≡_, ap, ap₂, refl, subst, sym, _∙_}
+use mathlib.Core.Path.{_≡_, ap, subst, sym, _∙_}
 use Prim.Native.Nat.{ℕ, _-_, _<_, _≤_}
 use native.Mathlib.Decide.{ℕ-discrete}
 use native.Mathlib.Omega.{arith}
@@ -15,15 +15,15 @@ use Rattle.links.specs.Links.{B, isFine}
 use Rattle.soundness.specs.LinkDid.{LinkDid, isJoin}
 use Rattle.soundness.specs.Sound.{Held, Sound}
 use Rattle.table.specs.Values.{KindWithin}
-use Rattle.table.specs.Words.{hopFrom, hopsOf, linkOf, packetsOf, pathOf, placeOf, sourceOf, stopOf}
+use Rattle.table.specs.Words.{hopsOf, linkOf, packetsOf, pathOf, placeOf, sourceOf, stopOf}
 use Rattle.table.proofs.InRange.{stop-below}
 use Rattle.tasks.specs.declared.Did.{Did}
 use Rattle.tasks.specs.declared.Kind.{Kind}
 use Rattle.tasks.specs.declared.Packet.{Packet}
 use Rattle.tasks.specs.Packets.{goesDown, isLeave}
-use Rattle.reachable.specs.Invariant.{AllFollowed, EntryOk, Every, Fits, Inv, LeaveFor, PacketOk, Reaches, SourceOk, activeIn, also, end, next, none}
+use Rattle.reachable.specs.Invariant.{AllFollowed, EntryOk, Every, Fits, Inv, LeaveFor, PacketOk, Reaches, activeIn, also, end, next, none}
 use Rattle.reachable.proofs.Follows.{NotOvertaken, followed-moved, reaches-moved}
-use Rattle.reachable.proofs.Kept.{hop-on, hop-same, packet-kept, source-kept}
+use Rattle.reachable.proofs.Kept.{hop-same, packet-kept, same-hop, source-kept}
 use Rattle.reachable.proofs.PacketLists.{every-append, every-first, every-left, every-map, every-rest, every-right, some-left, some-right}
 use Rattle.reachable.proofs.Sends.{burstTo, onwardTo}
 use Rattle.reachable.proofs.SentPackets.{Crossing, burst-followed, burst-ok, join-on-path, join-still-followed, lastOf, onward-followed, onward-leave, onward-ok}
@@ -39,13 +39,13 @@ module _ (w : List ℕ) (i : Inv w) (p : Packet) (xs ys : List Packet) (is : pac
   all-ok : Every (PacketOk w) (xs ++ p ∷ ys)
   all-ok = subst (Every (PacketOk w)) is (i .packets)
 
-  pub before-ok : Every (PacketOk w) xs
+  before-ok : Every (PacketOk w) xs
   before-ok = every-left xs (p ∷ ys) all-ok
 
-  pub packet-ok : PacketOk w p
+  packet-ok : PacketOk w p
   packet-ok = every-first (every-right xs (p ∷ ys) all-ok)
 
-  pub behind-ok : Every (PacketOk w) ys
+  behind-ok : Every (PacketOk w) ys
   behind-ok = every-rest (every-right xs (p ∷ ys) all-ok)
 
   pub all-followed : AllFollowed (activeIn w) [] (xs ++ p ∷ ys)
@@ -120,11 +120,8 @@ module _ (w : List ℕ) (i : Inv w) (p : Packet) (xs ys : List Packet) (is : pac
     where
       hop-not : p .session ≡ s → hopOf w s f ≡ p .hop → ⊥
       hop-not q r =
-          let a = hop-on w s f (i .entry f s lf ls h .on-path) in
-          let b = hop-on w (p .session) e (omega (arith, at, low)) in
-          let c : stopOf w (p .session) (hopOf w (p .session) e - 1) ≡ stopOf w s (hopOf w s f - 1) =
-          ap₂ (λ (x m : ℕ). stopOf w x (m - 1)) q (at ∙ sym r) in
-          n (sym (a .stop) ∙ sym c ∙ b .stop)
+          let b : hopOf w s e ≡ p .hop = ap (λ (x : ℕ). hopOf w x e) (sym q) ∙ at in
+          n (same-hop w s e f (omega (arith, b, low)) (r ∙ sym b))
 
       moved : (hopOf w s f ≤ p .hop) ⊎ (p .hop < hopOf w s f) → LeaveFor s (hopOf w s f) p → Reaches s (hopOf w s f) sent
       moved (inl m) u = absurd (hop-not (u .session) (omega (arith, m, u .hop)))

@@ -49,6 +49,11 @@ module _ {P : Packet → Type 0} where
   pub every-rest : {x : Packet} {xs : List Packet} → Every P (x ∷ xs) → Every P xs
   every-rest (also p u) = u
 
+  -- all but one
+  pub every-without : (xs : List Packet) (x : Packet) (ys : List Packet) → Every P (xs ++ x ∷ ys) → Every P (xs ++ ys)
+  every-without [] x ys (also p u) = u
+  every-without (y ∷ xs) x ys (also p u) = also p (every-without xs x ys u)
+
   pub no-packet : (xs : List Packet) → length xs ≡ 0 → Some P xs → ⊥
   no-packet (x ∷ xs) e (here p) = omega arith
   no-packet (x ∷ xs) e (later u) = omega arith
@@ -74,6 +79,10 @@ module _ {P : Packet → Type 0} (z : Packet) where
   some-at (x ∷ xs) (later u) = let r = some-at xs u in (suc (r .0), omega (arith, r .1), r .2)
 
 module _ {P Q : Packet → Type 0} where
+  pub every-both : (xs : List Packet) → Every P xs → Every Q xs → Every (λ q. P q × Q q) xs
+  every-both [] none none = none
+  every-both (x ∷ xs) (also a b) (also c d) = also (a, c) (every-both xs b d)
+
   pub every-map : (xs : List Packet) → ((q : Packet) → P q → Q q) → Every P xs → Every Q xs
   every-map [] f none = none
   every-map (x ∷ xs) f (also p u) = also (f x p) (every-map xs f u)

@@ -1,12 +1,12 @@
 -- What a step sends, as a list of packets, and the table after it.
 -- Assumes nothing.
 use mathlib.Core.List.{List, [], _∷_, _++_}
-use mathlib.Core.Path.{_≡_, ap, ap₂, refl, subst, sym, _∙_}
-use Prim.Native.Nat.{ℕ, zero, suc, _+_, _<_, _≤_}
+use mathlib.Core.Path.{_≡_, ap, ap₂, refl, _∙_}
+use Prim.Native.Nat.{ℕ, suc, _+_, _<_, _≤_}
 use native.Mathlib.Omega.{arith}
 use lib.ListN.{length}
-use Rattle.events.specs.Sending.{burstKind, hopOf, oneIf, sendAllOf, sendOnOf, sendUpOf, sentFrom}
-use Rattle.sessions.specs.Set.{members, walk}
+use Rattle.events.specs.Sending.{burstKind, hopOf, oneIf, sendOnOf, sendUpOf, sentFrom}
+use Rattle.sessions.specs.Set.{walk}
 use Rattle.table.specs.Values.{PacketWithin}
 use Rattle.table.specs.Words.{appended, countOf, hopFrom, packetsOf, pathOf}
 use Rattle.table.proofs.FitsMeans.{packet-within}
@@ -82,21 +82,21 @@ sends-each u e b (r ∷ l) (more h g) =
 
 -- THE TABLE -----------------------------------------------------------------------------------------------------------
 
--- v is u with the packets xs at the end
-pub record Sent (u v : List ℕ) (xs : List Packet) : Type 0 where
+-- v is u with the packets `rest`, and xs at the end
+pub record Sent (u : List ℕ) (rest xs : List Packet) (v : List ℕ) : Type 0 where
   pub lines : SameLines u v
-  pub packets : packetsOf v ≡ packetsOf u ++ xs
+  pub packets : packetsOf v ≡ rest ++ xs
   pub fits : Fits v
 
 append-one : (l : List Packet) (x : Packet) (xs : List Packet) → (l ++ (x ∷ [])) ++ xs ≡ l ++ (x ∷ xs)
 append-one [] x xs = refl
 append-one (y ∷ l) x xs = ap (λ (m : List Packet). y ∷ m) (append-one l x xs)
 
-append-nothing : (l : List Packet) → l ≡ l ++ []
+pub append-nothing : (l : List Packet) → l ≡ l ++ []
 append-nothing [] = refl
 append-nothing (y ∷ l) = ap (λ (m : List Packet). y ∷ m) (append-nothing l)
 
-pub all-sent : (u : List ℕ) (xs : List Packet) → Fits u → countOf u + length xs ≤ 256 → Every PacketWithin xs → Sent u (appendedAll u xs) xs
+pub all-sent : (u : List ℕ) (xs : List Packet) → Fits u → countOf u + length xs ≤ 256 → Every PacketWithin xs → Sent u (packetsOf u) xs (appendedAll u xs)
 unfolding appendedAll
 all-sent u [] f n none = record { lines = lines-refl u; packets = append-nothing (packetsOf u); fits = f }
 all-sent u (x ∷ xs) f n (also o e) =

@@ -1,6 +1,6 @@
 -- What a task sends: the packets are in range and on their paths, and a Leave that goes on still follows the Join before it.
 -- Assumes nothing.
-use mathlib.Core.Bool.{Bool, cond, false, true}
+use mathlib.Core.Bool.{Bool, false, true}
 use mathlib.Core.List.{List, [], _∷_, _++_}
 use mathlib.Core.Logic.{_⊎_, inl, inr}
 use mathlib.Core.Path.{_≡_, ap, refl, subst, sym, _∙_}
@@ -9,6 +9,7 @@ use native.Mathlib.Omega.{arith}
 use Rattle.events.specs.Sending.{hopOf, nextHop, sentFrom}
 use Rattle.records.proofs.Somes.{clash}
 use Rattle.soundness.specs.LinkDid.{GoesOn, isJoin}
+use Rattle.soundness.specs.ProbeCycle.{isResponse}
 use Rattle.table.specs.Values.{KindWithin}
 use Rattle.table.specs.Words.{hopsOf}
 use Rattle.table.proofs.InRange.{hops-most}
@@ -20,7 +21,7 @@ use Rattle.tasks.specs.declared.Packet.{Packet}
 use Rattle.tasks.specs.Packets.{goesDown, isLeave}
 use Rattle.reachable.specs.Invariant.{AllFollowed, Every, PacketOk, Reaches, also, end, here, later, next, none}
 use Rattle.reachable.proofs.Follows.{JoinOnPath, reaches-later}
-use Rattle.reachable.proofs.PacketLists.{no-packet, some-first, some-right}
+use Rattle.reachable.proofs.PacketLists.{no-packet}
 use Rattle.reachable.proofs.Sends.{Each, burstTo, more, nobody, onwardTo}
 
 -- WAYS ----------------------------------------------------------------------------------------------------------------
@@ -42,6 +43,15 @@ leave-down kind.Update t = t
 leave-down kind.Bottleneck t = t
 leave-down (kind.SetBottleneck β) t = refl
 leave-down kind.Leave t = refl
+
+pub response-up : (k : Kind) → isResponse k ≡ true → goesDown k ≡ false
+response-up (kind.Join x η) t = sym t
+response-up (kind.Probe x η) t = sym t
+response-up (kind.Response τ x η) t = refl
+response-up kind.Update t = refl
+response-up kind.Bottleneck t = refl
+response-up (kind.SetBottleneck β) t = sym t
+response-up kind.Leave t = sym t
 
 -- the destination's hop
 abbrev pub lastOf : List ℕ → ℕ → ℕ

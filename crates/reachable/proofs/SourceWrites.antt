@@ -1,6 +1,5 @@
--- A source is written and it sends: what is read of the table after it. u is the table w, with or without a packet that was taken out.
+-- A source is written and it sends: what is read of the table after it.
 -- Assumes nothing.
-use mathlib.Core.Bool.{Bool}
 use mathlib.Core.List.{List, _++_}
 use mathlib.Core.Path.{_≡_, ap, sym, _∙_}
 use Prim.Native.Nat.{ℕ, _+_, _<_, _≤_}
@@ -27,38 +26,40 @@ source-at w s i l h = source-fits-means w s (i .fits .sources s l h)
 pub place-after-source : (w : List ℕ) (q : ℕ) (z : Source) (e : ℕ) → q < 32 → e < 64 → placeOf (putSource w q z) e ≡ placeOf w e
 place-after-source w q z e y x = rw (link-after-source w q z e y x, row-after-source w q z e y x)
 
-module _ (w u : List ℕ) (lines : SameLines w u) (fits : Fits u) (s : ℕ) (ls : s < 32) (z : Source) (o : SourceWithin z)
-    (sent : List Packet) (ok : Every (PacketOk w) sent) (few : countOf u + length sent ≤ 256) where
-  abbrev after : List ℕ
-  after = appendedAll (putSource u s z) sent
+-- v is the table w, where the source of session s is z, with the packets `rest` and behind them `sent`
+pub record Written (w : List ℕ) (s : ℕ) (z : Source) (rest sent : List Packet) (v : List ℕ) : Type 0 where
+  pub fits : Fits v
+  pub places : (e : ℕ) → e < 64 → placeOf v e ≡ placeOf w e
+  pub paths : (r : ℕ) → r < 32 → pathOf v r ≡ pathOf w r
+  pub source : sourceOf v s ≡ z
+  pub others : (r : ℕ) → r < 32 → (r ≡ s → ⊥) → sourceOf v r ≡ sourceOf w r
+  pub packets : packetsOf v ≡ rest ++ sent
 
-  all : Sent (putSource u s z) after sent
-  all =
-      all-sent (putSource u s z) sent (fits-source u s z ls o fits) (omega (arith, few, count-after-source u s z ls))
-      (every-map sent (λ q k. k .within) ok)
+-- u is the table w, with or without a packet that was taken out
+pub source-written : (w u : List ℕ) → SameLines w u → Fits u → (s : ℕ) → s < 32 → (z : Source) → SourceWithin z
+    → (rest sent : List Packet)
+    → packetsOf u ≡ rest
+    → Every (PacketOk w) sent
+    → countOf u + length sent ≤ 256
+    → Written w s z rest sent (appendedAll (putSource u s z) sent)
+source-written w u lines fits s ls z o rest sent is ok few =
+    let all : Sent (putSource u s z) (packetsOf (putSource u s z)) sent (appendedAll (putSource u s z) sent) =
+    all-sent (putSource u s z) sent (fits-source u s z ls o fits) (omega (arith, few, count-after-source u s z ls))
+    (every-map sent (λ q k. k .within) ok) in
+    record {
+      fits = all .fits;
+      places = λ e l. all .lines .place e l ∙ place-after-source u s z e ls l ∙ lines .place e l;
+      paths = λ r l. all .lines .path r l ∙ path-after-source u s z r ls l ∙ lines .path r l;
+      source = all .lines .source s ls ∙ source-back u s z (fits .long) ls (source-within o);
+      others = λ r l n. all .lines .source r l ∙ source-other u s z r n ∙ lines .source r l;
+      packets = all .packets ∙ ap (λ (l : List Packet). l ++ sent) (packets-after-source u s z ls ∙ is);
+    }
 
-  pub written-fits : Fits after
-  written-fits = all .fits
-
-  pub written-places : (e : ℕ) → e < 64 → placeOf after e ≡ placeOf w e
-  written-places e l = all .lines .place e l ∙ place-after-source u s z e ls l ∙ lines .place e l
-
-  pub written-paths : (r : ℕ) → r < 32 → pathOf after r ≡ pathOf w r
-  written-paths r l = all .lines .path r l ∙ path-after-source u s z r ls l ∙ lines .path r l
-
-  pub written-packets : packetsOf after ≡ packetsOf u ++ sent
-  written-packets = all .packets ∙ ap (λ (l : List Packet). l ++ sent) (packets-after-source u s z ls)
-
-  pub written-source : sourceOf after s ≡ z
-  written-source = all .lines .source s ls ∙ source-back u s z (fits .long) ls (source-within o)
-
-  pub other-source : (r : ℕ) → r < 32 → (r ≡ s → ⊥) → sourceOf after r ≡ sourceOf w r
-  other-source r l n = all .lines .source r l ∙ source-other u s z r n ∙ lines .source r l
-
-  -- where the source is as active as it was, all are
-  pub active-same : z .active ≡ activeIn w s → (r : ℕ) → r < 32 → activeIn after r ≡ activeIn w r
-  active-same a r l = go (ℕ-discrete r s)
-    where
-      go : Dec (r ≡ s) → activeIn after r ≡ activeIn w r
-      go (yes q) = ap (activeIn after) q ∙ ap (λ (y : Source). y .active) written-source ∙ a ∙ ap (activeIn w) (sym q)
-      go (no n) = ap (λ (y : Source). y .active) (other-source r l n)
+-- where the source is as active as it was, all are
+pub active-same : {w : List ℕ} {s : ℕ} {z : Source} {rest sent : List Packet} {v : List ℕ} → Written w s z rest sent v → z .active ≡ activeIn w s
+    → (r : ℕ) → r < 32 → activeIn v r ≡ activeIn w r
+active-same {w} {s} {z} {rest} {sent} {v} a k r l = go (ℕ-discrete r s)
+  where
+    go : Dec (r ≡ s) → activeIn v r ≡ activeIn w r
+    go (yes q) = ap (activeIn v) q ∙ ap (λ (y : Source). y .active) (a .source) ∙ k ∙ ap (activeIn w) (sym q)
+    go (no n) = ap (λ (y : Source). y .active) (a .others r l n)

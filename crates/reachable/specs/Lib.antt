@@ -1,3 +1,4 @@
 -- The definitions that the theorems of reachable cite.
 pub mod Reachable
 pub mod Invariant
+pub mod Cycle

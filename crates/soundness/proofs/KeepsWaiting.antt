@@ -24,19 +24,11 @@ use Rattle.tasks.specs.declared.Onward.the-variants as onward
 use Rattle.tasks.specs.declared.Tau.{Tau}
 use Rattle.tasks.specs.declared.Tau.the-variants as tau
 use Rattle.tasks.specs.Figure2.{acceptedOf, agreedOf, answeredOf, bottleneckOf, freedOf, idleAtB, joinOf, leaveOf, linkStepOf, probeOf, quiet, responseOf, restrictedOf, setBottleneckOf, stayingOf, updateOf, withoutOf}
+use Rattle.soundness.specs.ProbeCycle.{Waiting, isResponse}
 use Rattle.soundness.specs.Sound.{Held, Sound}
 use Rattle.soundness.proofs.Holding.{is-in, not-held}
 use Rattle.soundness.proofs.Leaving.{did-leave}
-use Rattle.soundness.proofs.Waits.{Waiting, entry-still, not-at, not-idle, probe-waits, process-still, still, waiting-still}
-
-abbrev pub isResponse : Kind → Bool
-isResponse (kind.Join x η) = false
-isResponse (kind.Probe x η) = false
-isResponse (kind.Response τ x η) = true
-isResponse kind.Update = false
-isResponse kind.Bottleneck = false
-isResponse (kind.SetBottleneck β) = false
-isResponse kind.Leave = false
+use Rattle.soundness.proofs.Waits.{entry-still, not-at, not-idle, probe-waits, process-still, still, waiting-still}
 
 abbrev WaitingAfter : ℕ → Did → Type 0
 WaitingAfter r d = Waiting (d .place) r

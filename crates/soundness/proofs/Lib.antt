@@ -12,3 +12,4 @@ pub mod Restricting
 pub mod EveryRule
 pub mod Waits
 pub mod KeepsWaiting
+pub mod SendsCycle

@@ -29,15 +29,11 @@ use Rattle.tasks.specs.declared.Eta.{Eta}
 use Rattle.tasks.specs.declared.Kind.{Kind}
 use Rattle.tasks.specs.declared.Kind.the-variants as kind
 use Rattle.tasks.specs.Figure2.{joinOf, linkStepOf, probeOf, restrictedOf, stayingOf}
+use Rattle.soundness.specs.ProbeCycle.{Waiting}
 use Rattle.soundness.specs.Sound.{Sound}
 use Rattle.soundness.proofs.Chosen.{those-out}
 use Rattle.soundness.proofs.Holding.{is-in}
 use Rattle.soundness.proofs.Weights.{walk-adds}
-
--- r is in R and waits for a response
-pub record Waiting (p : Place) (r : ℕ) : Type 0 where
-  pub restricted : inR p r ≡ true
-  pub awaits : awaitsResponse (muAt p r) ≡ true
 
 -- a Join is taken where the link does not hold the session (h is whether it does), a Probe where it does
 abbrev pub startsToWait : Kind → Bool → Bool

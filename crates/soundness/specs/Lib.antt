@@ -1,3 +1,4 @@
 -- The definitions that the theorems of soundness cite.
 pub mod Sound
 pub mod LinkDid
+pub mod ProbeCycle

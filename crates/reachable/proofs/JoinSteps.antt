@@ -1,0 +1,238 @@
+-- A join: the table after it.
+-- Assumes nothing.
+use mathlib.Core.Bool.{false, not, true, _&&_}
+use mathlib.Core.List.{List, [], _∷_, _++_}
+use mathlib.Core.Path.{_≡_, ap, refl, subst, sym, _∙_}
+use Prim.Native.Nat.{ℕ, _+_, _<_, _≤_}
+use native.Mathlib.Omega.{arith}
+use borrow.Author.Tests.{eqb-false, leb-true, ltb-true}
+use lib.Dec.{eqb, leb, ltb}
+use lib.ListN.{drop, getD, length}
+use lib.Seq.{getD-drop, getD-take}
+use Rattle.ends.specs.declared.Source.{Source}
+use Rattle.ends.specs.Figure3.{D, joiningOf}
+use Rattle.events.specs.Events.{Step, declaredIn, joinOf, pathDeclaredIn, sourceSends}
+use Rattle.events.specs.Sending.{noneOf, sentFrom}
+use Rattle.fractions.proofs.Cases.{and-both, cases, not-true}
+use Rattle.fractions.proofs.Ranges.{whole-within}
+use Rattle.fractions.specs.declared.Rate.{Rate}
+use Rattle.fractions.specs.Fraction.{wholeOf}
+use Rattle.links.specs.declared.Place.{Place}
+use Rattle.links.specs.Links.{isIdle}
+use Rattle.records.proofs.Alls.{all-at}
+use Rattle.records.specs.Format.{differ, isNew, linksOk, pathOk, restOk}
+use Rattle.soundness.specs.Sound.{Held}
+use Rattle.table.specs.Values.{SourceWithin}
+use Rattle.table.specs.Words.{countOf, hopsOf, linkOf, packetOf, packetsOf, pathOf, placeOf, putHops, putPath, putSource, sourceOf, stopOf}
+use Rattle.table.proofs.FitsMeans.{source-within}
+use Rattle.table.proofs.InRange.{path-stop}
+use Rattle.table.proofs.Packets.{length-packets, packets-at}
+use Rattle.table.proofs.Places.{length-put-hops, length-put-path}
+use Rattle.table.proofs.ReadBack.{hops-back, path-back-hops-last, source-back}
+use Rattle.table.proofs.Unchanged.{count-after-hops, count-after-path, count-after-source, hops-after-source, link-after-hops, link-after-path, packets-after-hops, packets-after-path, packets-after-source, path-after-source, path-other-hops, path-other-path, row-after-hops, row-after-path, source-after-hops, source-after-path, source-other}
+use Rattle.tasks.specs.declared.Eta.the-variants as eta
+use Rattle.tasks.specs.declared.Kind.the-variants as kind
+use Rattle.tasks.specs.declared.Packet.{Packet}
+use Rattle.reachable.specs.Invariant.{Every, Fits, Inv, PacketOk, SourceOk, activeIn, also, none}
+use Rattle.reachable.proofs.FitsKept.{fits-join}
+use Rattle.reachable.proofs.PacketLists.{every-index, every-map, none-some}
+use Rattle.reachable.proofs.Sends.{Sent, all-sent, appendedAll}
+use Rattle.reachable.proofs.SentPackets.{sent-ok}
+use Rattle.reachable.proofs.SourceRules.{limit-within}
+use Rattle.reachable.proofs.SourceWrites.{place-after-source}
+use Rattle.reachable.proofs.Unless.{unless-many}
+
+-- THE PATH OF A RECORD ------------------------------------------------------------------------------------------------
+
+-- n links from a place of the bytes on: 1 to 8 of them, below 64, none twice
+pub record Path (bytes : List ℕ) (at n : ℕ) : Type 0 where
+  pub some : 0 < n
+  pub most : n ≤ 8
+  pub link : (i : ℕ) → i < n → getD bytes (at + i) 0 < 64
+  pub once : (i j : ℕ) → i < n → j < i → getD bytes (at + j) 0 ≡ getD bytes (at + i) 0 → ⊥
+
+path-is : (bytes : List ℕ) (at n : ℕ) → pathOk bytes at n ≡ true → Path bytes at n
+unfolding pathOk linksOk differ isNew
+path-is bytes at n h =
+    let a = and-both (ltb 0 n) (leb n 8 && (linksOk bytes at n && (differ bytes at n && restOk bytes at n))) h in
+    let b = and-both (leb n 8) (linksOk bytes at n && (differ bytes at n && restOk bytes at n)) (a .1) in
+    let c = and-both (linksOk bytes at n) (differ bytes at n && restOk bytes at n) (b .1) in
+    let d = and-both (differ bytes at n) (restOk bytes at n) (c .1) in
+    record {
+      some = ltb-true 0 n (a .0);
+      most = leb-true n 8 (b .0);
+      link = λ i l. ltb-true (getD bytes (at + i) 0) 64 (all-at n (λ h. ltb (getD bytes (at + h) 0) 64) i (c .0) l);
+      once = λ i j l k.
+          eqb-false (getD bytes (at + j) 0) (getD bytes (at + i) 0)
+          (not-true (eqb (getD bytes (at + j) 0) (getD bytes (at + i) 0))
+          (all-at i (λ g. not (eqb (getD bytes (at + g) 0) (getD bytes (at + i) 0))) j (all-at n (λ h. isNew bytes at h (getD bytes (at + h) 0)) i (d .0) l) k));
+    }
+
+path-declared : (w bytes : List ℕ) (at n : ℕ) → pathDeclaredIn w bytes at n ≡ true → (i : ℕ) → i < n → 0 < linkOf w (getD bytes (at + i) 0) .capacity
+unfolding pathDeclaredIn
+path-declared w bytes at n h i l =
+    let e = getD bytes (at + i) 0 in
+    ltb-true 0 (linkOf w e .capacity) (and-both (ltb e 64) (declaredIn w e) (all-at n (λ h. ltb (getD bytes (at + h) 0) 64 && declaredIn w (getD bytes (at + h) 0)) i h l) .1)
+
+-- no packet of the session is in flight
+none-of : (w : List ℕ) (s : ℕ) → noneOf w s (countOf w) ≡ true → Every (λ q. q .session ≡ s → ⊥) (packetsOf w)
+unfolding noneOf
+none-of w s h =
+    let z = packetOf w 0 in
+    every-index z (packetsOf w)
+    (λ i l.
+    let k : i < countOf w = omega (arith, l, length-packets w) in
+    subst (λ (q : Packet). q .session ≡ s → ⊥) (sym (packets-at w i z k))
+    (eqb-false (packetOf w i .session) s (not-true (eqb (packetOf w i .session) s) (all-at (countOf w) (λ i. not (eqb (packetOf w i .session) s)) i h k))))
+
+-- THE TABLE AFTER A JOIN ----------------------------------------------------------------------------------------------
+
+-- the Join of session s, of rate x, at hop 1
+abbrev pub theJoin : ℕ → Rate → Packet
+theJoin s x = sentFrom s 0 (kind.Join x eta.Own)
+
+-- v is the table w after session s joined, which had no packet and no entry left
+pub record Joined (w : List ℕ) (s : ℕ) (x : Rate) (v : List ℕ) : Type 0 where
+  pub no-packet : Every (λ q. q .session ≡ s → ⊥) (packetsOf w)
+  pub no-entry : (e : ℕ) → e < 64 → Held (placeOf w e) s → ⊥
+  pub fits : Fits v
+  pub places : (e : ℕ) → e < 64 → placeOf v e ≡ placeOf w e
+  pub active : activeIn v s ≡ true
+  pub waits : isIdle (sourceOf v s .mu) ≡ false
+  pub path : SourceOk v s
+  pub sources : (r : ℕ) → r < 32 → (r ≡ s → ⊥) → sourceOf v r ≡ sourceOf w r
+  pub paths : (r : ℕ) → r < 32 → (r ≡ s → ⊥) → pathOf v r ≡ pathOf w r
+  pub packets : packetsOf v ≡ packetsOf w ++ theJoin s x ∷ []
+  pub join : PacketOk v (theJoin s x)
+
+module _ (w : List ℕ) (i : Inv w) (s : ℕ) (ls : s < 32) (bytes : List ℕ) (at n : ℕ) (path : Path bytes at n) (whole : at + 8 ≤ length bytes)
+    (declared : (i : ℕ) → i < n → 0 < linkOf w (getD bytes (at + i) 0) .capacity) (left : activeIn w s ≡ false)
+    (none-left : Every (λ q. q .session ≡ s → ⊥) (packetsOf w)) (z : Source) (o : SourceWithin z) (active : z .active ≡ true)
+    (waits : isIdle (z .mu) ≡ false) (few : countOf w + 1 ≤ 256) where
+  abbrev routed : List ℕ
+  routed = putHops (putPath w s bytes at) s n
+
+  abbrev written : List ℕ
+  written = putSource routed s z
+
+  abbrev join : Packet
+  join = theJoin s (wholeOf (D z))
+
+  abbrev v : List ℕ
+  v = appendedAll written (join ∷ [])
+
+  routed-long : length routed ≡ 9153
+  routed-long = length-put-hops (putPath w s bytes at) s n ∙ length-put-path w s bytes at ∙ i .fits .long
+
+  written-count : countOf written ≡ countOf w
+  written-count = count-after-source routed s z ls ∙ count-after-hops (putPath w s bytes at) s n ls ∙ count-after-path w s bytes at ls
+
+  -- the Join is a packet in range
+  all : Sent written (packetsOf written) (join ∷ []) v
+  all =
+      all-sent written (join ∷ []) (fits-join w s n bytes at z ls (path .most) (path .some) (path .link) o (i .fits)) (omega (arith, few, written-count))
+      (also (record { session = ls; hop = omega arith; kind = (limit-within z (o .access), tt) }) none)
+
+  places : (e : ℕ) → e < 64 → placeOf v e ≡ placeOf w e
+  places e l =
+      all .lines .place e l
+      ∙ place-after-source routed s z e ls l
+      ∙ rw (
+        link-after-hops (putPath w s bytes at) s n e ls l,
+        link-after-path w s bytes at e ls l,
+        row-after-hops (putPath w s bytes at) s n e ls l,
+        row-after-path w s bytes at e ls l,
+      )
+
+  joined-source : sourceOf v s ≡ z
+  joined-source = all .lines .source s ls ∙ source-back routed s z routed-long ls (source-within o)
+
+  other-source : (r : ℕ) → r < 32 → (r ≡ s → ⊥) → sourceOf v r ≡ sourceOf w r
+  other-source r l m =
+      all .lines .source r l
+      ∙ source-other routed s z r m
+      ∙ source-after-hops (putPath w s bytes at) s n r ls l
+      ∙ source-after-path w s bytes at r ls l
+
+  other-path : (r : ℕ) → r < 32 → (r ≡ s → ⊥) → pathOf v r ≡ pathOf w r
+  other-path r l m =
+      all .lines .path r l
+      ∙ path-after-source routed s z r ls l
+      ∙ path-other-hops (putPath w s bytes at) s n r m
+      ∙ path-other-path w s bytes at r m
+
+  joined-hops : hopsOf v s ≡ n
+  joined-hops =
+      all .lines .hops s ls
+      ∙ hops-after-source routed s z s ls ls
+      ∙ hops-back (putPath w s bytes at) s n (length-put-path w s bytes at ∙ i .fits .long) ls (path .most)
+
+  joined-stop : (j : ℕ) → j < n → stopOf v s j ≡ getD bytes (at + j) 0
+  joined-stop j l =
+      sym (path-stop v s j 0 (omega (arith, joined-hops)))
+      ∙ ap (λ (x : List ℕ). getD x j 0)
+      (all .lines .path s ls ∙ path-after-source routed s z s ls ls ∙ path-back-hops-last w s n bytes at (i .fits .long) ls (path .most) whole (path .link))
+      ∙ getD-take n (drop at bytes) j 0 l
+      ∙ getD-drop at bytes j 0
+
+  packets : packetsOf v ≡ packetsOf w ++ join ∷ []
+  packets =
+      all .packets
+      ∙ ap (λ (l : List Packet). l ++ join ∷ [])
+      (packets-after-source routed s z ls ∙ packets-after-hops (putPath w s bytes at) s n ls ∙ packets-after-path w s bytes at ls)
+
+  -- the session has no entry yet
+  no-entry : (e : ℕ) → e < 64 → Held (placeOf w e) s → ⊥
+  no-entry e l h =
+      none-some (packetsOf w) (every-map (packetsOf w) (λ q m u. m (u .session)) none-left) (i .entry e s l ls h .live left)
+
+  joined-ok : SourceOk v s
+  joined-ok = record {
+    joined = λ t. omega (arith, joined-hops, path .some);
+    declared = λ j l.
+        let k : j < n = omega (arith, joined-hops, l) in
+        subst (λ (e : ℕ). 0 < linkOf v e .capacity) (sym (joined-stop j k))
+        (subst (λ (x : Place). 0 < x .link .capacity) (sym (places (getD bytes (at + j) 0) (path .link j k))) (declared j k));
+    once = λ j k l m q.
+        let a : j < n = omega (arith, joined-hops, l) in
+        path .once j k a m (sym (joined-stop k (omega (arith, a, m))) ∙ q ∙ joined-stop j a);
+  }
+
+  joined : Joined w s (wholeOf (D z)) v
+  joined = record {
+    no-packet = none-left;
+    no-entry = no-entry;
+    fits = all .fits;
+    places = places;
+    active = ap (λ (y : Source). y .active) joined-source ∙ active;
+    waits = ap (λ (y : Source). isIdle (y .mu)) joined-source ∙ waits;
+    path = joined-ok;
+    sources = other-source;
+    paths = other-path;
+    packets = packets;
+    join = sent-ok v s 0 (kind.Join (wholeOf (D z)) eta.Own) ls (omega (arith, joined-hops, path .some)) (λ t. omega arith) (omega arith)
+        (limit-within z (o .access), tt);
+  }
+
+pub join-either : (P : List ℕ → Type 0) (bytes w : List ℕ) (s access maximum n at : ℕ) → s < 32 → 0 < access → access ≤ 1000000 → maximum ≤ 1000000
+    → pathOk bytes at n ≡ true
+    → at + 8 ≤ length bytes
+    → Inv w
+    → P w
+    → ((x : Rate) (v : List ℕ) → Joined w s x v → P v)
+    → P (joinOf bytes w s access maximum n at .words)
+unfolding joinOf sourceSends joiningOf appendedAll
+join-either P bytes w s access maximum n at ls a0 a1 m1 ok whole i k f =
+    cases (λ (x : Step). P (x .words)) (sourceOf w s .active) _ _ (λ t. k)
+    (λ t.
+    cases (λ (x : Step). P (x .words)) (pathDeclaredIn w bytes at n) _ _
+    (λ d.
+    cases (λ (x : Step). P (x .words)) (noneOf w s (countOf w)) _ _
+    (λ e.
+    unless-many P _ w _ k
+    (λ few.
+    f _ _
+    (joined w i s ls bytes at n (path-is bytes at n ok) whole (path-declared w bytes at n d) t (none-of w s e) _
+    (record { joined = a0; access = a1; maximum = m1; rate = whole-within (omega arith); told = tt }) refl refl few)))
+    (λ e. k))
+    (λ d. k))
