@@ -1,88 +1,7 @@
 // Reads records from standard input, runs them from the empty table, and prints what the table then says (01, "Examples").
 ghost use mathlib.Core.Path.{_≡_};
 ghost use lib.ListN.{length};
-use ends::Told;
 use libc::STDIN_FILENO;
-use libc::STDOUT_FILENO;
-use machine::Session;
-use machine::SettledAnswer;
-use records::End;
-use records::Refusal;
-
-// The rate last told, or `none`.
-fn print_told(told: Told) {
-    match told {
-        Told::Never => {
-            io::write_all(STDOUT_FILENO, b" none\n");
-        }
-        Told::Rate(x) => {
-            io::write_all(STDOUT_FILENO, b" ");
-            io::print_decimal(STDOUT_FILENO, x.num);
-            io::write_all(STDOUT_FILENO, b"/");
-            io::print_decimal(STDOUT_FILENO, x.den);
-            io::write_all(STDOUT_FILENO, b"\n");
-        }
-    }
-}
-
-// A session that is active, and its rate.
-fn print_session(s: u32, x: Session) {
-    match x {
-        Session::NotActive => {}
-        Session::Active(told) => {
-            io::print_decimal(STDOUT_FILENO, s as u64);
-            print_told(told);
-        }
-    }
-}
-
-// The active sessions by rising number.
-fn print_sessions(t: &[u64; 9153]) {
-    for s in 0..32u32 {
-        let x = machine::session_at(t, s);
-        print_session(s, x);
-    }
-}
-
-// Whether the table is settled.
-fn print_settled(answer: SettledAnswer) {
-    match answer {
-        SettledAnswer::Yes => {
-            io::write_all(STDOUT_FILENO, b" settled yes\n");
-        }
-        SettledAnswer::No => {
-            io::write_all(STDOUT_FILENO, b" settled no\n");
-        }
-        SettledAnswer::Refused { refusal, place } => {
-            io::write_all(STDOUT_FILENO, b" settled no\n");
-        }
-    }
-}
-
-// Records taken, packets in flight, and whether the table is settled.
-fn print_header(taken: usize, packets: usize, answer: SettledAnswer) {
-    io::write_all(STDOUT_FILENO, b"taken ");
-    io::print_decimal(STDOUT_FILENO, taken as u64);
-    io::write_all(STDOUT_FILENO, b" packets ");
-    io::print_decimal(STDOUT_FILENO, packets as u64);
-    print_settled(answer);
-}
-
-// A refusal ends the output.
-fn print_refusal(refusal: Refusal, place: usize) {
-    io::write_all(STDOUT_FILENO, b"refused ");
-    io::print_decimal(STDOUT_FILENO, records::number(refusal));
-    io::write_all(STDOUT_FILENO, b" at ");
-    io::print_decimal(STDOUT_FILENO, place as u64);
-    io::write_all(STDOUT_FILENO, b"\n");
-}
-
-fn print_end(end: End) {
-    match end {
-        End::Finished => {}
-        End::Refused { refusal, place } => print_refusal(refusal, place),
-    }
-}
 
 // One byte over the limit is enough to see that an input is too long.
 fn input_buffer() -> [u8; 32_769]
@@ -94,12 +13,5 @@ fn input_buffer() -> [u8; 32_769]
 fn main() {
     let mut input = input_buffer();
     let n = io::read_full(STDIN_FILENO, &mut input);
-    let mut t = [0u64; 9153];
-    machine::make_empty(&mut t);
-    let ran = machine::run(&mut t, &input[..n]);
-    let end = ran.end;
-    let answer = machine::settled(&t);
-    print_header(ran.taken, machine::in_flight(&t), answer);
-    print_sessions(&t);
-    print_end(end);
+    steps_text::print(&input[..n]);
 }

@@ -1,10 +1,10 @@
--- `shares::print_header` is safe.
+-- `shares_text::print_header` is safe.
 -- Assumes nothing.
 use borrow.Author.Needs.{needs}
 use native.Mathlib.Omega.{arith}
 use lib.Count.{ones-le}
-use Rattle.shares.proofs.print_header.Statement.{statement}
-use Rattle.shares.proofs.print_header.Tie as tie
+use Rattle.shares_text.proofs.print_header.Statement.{statement}
+use Rattle.shares_text.proofs.print_header.Tie as tie
 
 slice-aggregate-write-all : tie.Need-slice-aggregate-write-all
 slice-aggregate-write-all c = search needs

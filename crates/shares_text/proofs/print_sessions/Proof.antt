@@ -1,10 +1,10 @@
--- `shares::print_sessions` is safe, and ends.
+-- `shares_text::print_sessions` is safe, and ends.
 -- Assumes nothing.
 use native.Mathlib.Omega.{arith}
 use Prim.Native.Nat.{_^_, _<_}
 use Rattle.sessions.proofs.Walks.{next-below, next-less}
-use Rattle.shares.proofs.print_sessions.Statement.{statement}
-use Rattle.shares.proofs.print_sessions.Tie as tie
+use Rattle.shares_text.proofs.print_sessions.Statement.{statement}
+use Rattle.shares_text.proofs.print_sessions.Tie as tie
 
 abbrev Inv-loop : tie.InvT-loop
 Inv-loop sessions nums dens places left₀ left = left < 2 ^ 32
