@@ -3,7 +3,7 @@
 //! record leaves the table as it was.
 
 use super::parts::{link_of, message_of, packet_of, put_link, source_numbers, source_of};
-use super::table::{Link, Packet, Source, Table, ACTIVE, LEFT, YES};
+use super::table::{Link, Packet, Source, Table, ACTIVE, LEFT, NOT_IN_F, YES};
 use crate::records::{Record, Refusal, PACKETS};
 use crate::tasks::source::Source as SourceTask;
 use crate::tasks::{destination, Message, Sent, Way};
@@ -62,13 +62,16 @@ fn join(
     Ok(())
 }
 
-// 001, Figure 3, lines 8 and 9. The entries stay until the Leave reaches them, link by link.
+// 001, Figure 3, lines 8 and 9: R and F of the source are empty then. The entries stay until the
+// Leave reaches them, link by link.
 fn leave(table: &mut Table, session: usize) -> Result<(), Refusal> {
     if !table.sources[session].is_active() {
         return Err(Refusal::NotActive);
     }
     table.packets = with_sent(&table.packets, [from_source(session, Message::Leave)])?;
-    table.sources[session].standing = LEFT;
+    let source = &mut table.sources[session];
+    source.standing = LEFT;
+    source.set = NOT_IN_F;
     Ok(())
 }
 

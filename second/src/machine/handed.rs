@@ -92,16 +92,20 @@ fn source_in_range(source: &Source) -> bool {
         && flags.iter().all(|&flag| flag <= YES)
 }
 
-// Every field counts, whether or not the packet's kind uses it. The longest path has its
-// destination at hop 9.
+// The fields that every packet has, and those that this one's kind carries. The longest path has
+// its destination at hop 9.
 fn packet_in_range(packet: &Packet) -> bool {
-    packet.kind <= LEAVE
+    let carried = match packet.kind {
+        JOIN | PROBE => packet.named <= OWN,
+        RESPONSE => packet.named <= OWN && packet.tau <= TAU_BOTTLENECK,
+        SET_BOTTLENECK => packet.beta <= YES,
+        UPDATE | BOTTLENECK | LEAVE => true,
+        _ => false,
+    };
+    carried
         && packet.session < SESSIONS as u64
         && packet.hop <= PATH_LINKS as u64 + 1
         && packet.direction <= UP
-        && packet.named <= OWN
-        && packet.tau <= TAU_BOTTLENECK
-        && packet.beta <= YES
 }
 
 fn positive_rate(rate: u64) -> bool {
@@ -117,7 +121,8 @@ fn rates_in_lowest_terms(table: &Table) -> bool {
     rates(table).all(|(num, den)| common_divisor(u128::from(num), u128::from(den)) == 1)
 }
 
-// Every rate that the table has: of entries, of sources, last told, and of packets.
+// Every rate that the table has: of entries, of sources, last told, and of the packets that carry
+// one.
 fn rates(table: &Table) -> impl Iterator<Item = (u64, u64)> + '_ {
     let of_entries = existing_entries(table).map(|(link, session)| {
         let entry = table.links[link].entries[session];
@@ -128,7 +133,11 @@ fn rates(table: &Table) -> impl Iterator<Item = (u64, u64)> + '_ {
     let told = joined()
         .filter(|source| source.told == YES)
         .map(|source| (source.told_num, source.told_den));
-    let of_packets = table.packets.iter().map(|packet| (packet.num, packet.den));
+    let of_packets = table
+        .packets
+        .iter()
+        .filter(|packet| packet.carries_rate())
+        .map(|packet| (packet.num, packet.den));
     of_entries.chain(held).chain(told).chain(of_packets)
 }
 

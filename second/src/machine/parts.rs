@@ -2,7 +2,7 @@
 //! the clauses of 14 on ranges: a number outside its range is read as the last case.
 
 use super::table::{
-    Entry, Packet, Source, Table, ACTIVE, BOTTLENECK, DOWN, IDLE, IN_F, IN_R, JOIN, LEAVE, NO,
+    Entry, Packet, Source, Table, ACTIVE, BOTTLENECK, DOWN, IDLE, IN_F, JOIN, LEAVE, NO, NOT_IN_F,
     PROBE, RESPONSE, SET_BOTTLENECK, TAU_BOTTLENECK, TAU_RESPONSE, TAU_UPDATE, UP, UPDATE,
     WAITING_PROBE, WAITING_RESPONSE, YES,
 };
@@ -57,7 +57,11 @@ pub fn source_of(source: &Source) -> tasks::source::Source {
     tasks::source::Source {
         access: source.access,
         maximum: source.maximum,
-        set: if source.set == IN_R { Set::R } else { Set::F },
+        set: if source.set == NOT_IN_F {
+            Set::R
+        } else {
+            Set::F
+        },
         state: state_of(source.state),
         upd_rcv: source.upd_rcv == YES,
         bneck_rcv: source.bneck_rcv == YES,
@@ -78,7 +82,7 @@ pub fn source_numbers(source: &tasks::source::Source, path: &[u64]) -> Source {
         length: path.len() as u64,
         path: places,
         set: match source.set {
-            Set::R => IN_R,
+            Set::R => NOT_IN_F,
             Set::F => IN_F,
         },
         state: state_number(source.state),
@@ -92,23 +96,26 @@ pub fn source_numbers(source: &tasks::source::Source, path: &[u64]) -> Source {
     }
 }
 
-/// What a packet says.
+/// What a packet says: the fields that its kind carries, and no others.
 pub fn message_of(packet: &Packet) -> Message {
-    let rate = rate_of(packet.num, packet.den);
-    let named = if packet.named == OWN {
-        Named::Own
-    } else {
-        Named::Link(packet.named as usize)
-    };
-    let tau = match packet.tau {
-        TAU_RESPONSE => Tau::Response,
-        TAU_UPDATE => Tau::Update,
-        _ => Tau::Bottleneck,
-    };
     match packet.kind {
-        JOIN => Message::Join { rate, named },
-        PROBE => Message::Probe { rate, named },
-        RESPONSE => Message::Response { tau, rate, named },
+        JOIN => {
+            let (rate, named) = carried_rate(packet);
+            Message::Join { rate, named }
+        }
+        PROBE => {
+            let (rate, named) = carried_rate(packet);
+            Message::Probe { rate, named }
+        }
+        RESPONSE => {
+            let (rate, named) = carried_rate(packet);
+            let tau = match packet.tau {
+                TAU_RESPONSE => Tau::Response,
+                TAU_UPDATE => Tau::Update,
+                _ => Tau::Bottleneck,
+            };
+            Message::Response { tau, rate, named }
+        }
         UPDATE => Message::Update,
         BOTTLENECK => Message::Bottleneck,
         SET_BOTTLENECK => Message::SetBottleneck {
@@ -116,6 +123,15 @@ pub fn message_of(packet: &Packet) -> Message {
         },
         _ => Message::Leave,
     }
+}
+
+fn carried_rate(packet: &Packet) -> (Fraction, Named) {
+    let named = if packet.named == OWN {
+        Named::Own
+    } else {
+        Named::Link(packet.named as usize)
+    };
+    (rate_of(packet.num, packet.den), named)
 }
 
 /// A packet that says this and is about to reach `hop`, the fields that it does not need blank.

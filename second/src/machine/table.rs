@@ -3,8 +3,8 @@
 //!
 //! What does not exist is not looked at, one way for all: the capacity of an undeclared link, an
 //! entry whose session is in neither R nor F of its link, every field but the standing of a source
-//! that never joined, path places past the path's length, and the rate told where none was. All
-//! fields of a packet in the list exist, also those that its kind does not use.
+//! that never joined, path places past the path's length, the rate told where none was, and the
+//! fields of a packet that its kind does not carry.
 
 use crate::records::{LINKS, OWN, PATH_LINKS, SESSIONS, UNUSED};
 
@@ -27,8 +27,9 @@ pub const ACTIVE: u64 = 1;
 /// The session has left; its source keeps the path for the packets still travelling.
 pub const LEFT: u64 = 2;
 
-/// At the source: the session is in R of its own line.
-pub const IN_R: u64 = 0;
+/// At the source: F of its own line does not hold the session. It is in R, or in neither where it
+/// has left.
+pub const NOT_IN_F: u64 = 0;
 /// At the source: the session is in F of its own line.
 pub const IN_F: u64 = 1;
 
@@ -86,8 +87,8 @@ pub struct Link {
     pub entries: [Entry; SESSIONS],
 }
 
-/// A session's source. A source that has left is in neither R nor F of its own line (001, Figure
-/// 3, line 9): its standing says so, and its other fields stay as they were.
+/// A session's source. When the session leaves, R and F of its own line become empty (001, Figure 3,
+/// line 9), which the standing and `set` say; the other fields stay as they were.
 #[derive(Clone, Copy, Debug, PartialEq, Eq)]
 pub struct Source {
     /// `NEVER_JOINED`, `ACTIVE` or `LEFT`.
@@ -100,7 +101,7 @@ pub struct Source {
     pub length: u64,
     /// The links in path order; unused places are 255 after a step of the source.
     pub path: [u64; PATH_LINKS],
-    /// `IN_R` or `IN_F`.
+    /// `NOT_IN_F` or `IN_F`.
     pub set: u64,
     /// `IDLE`, `WAITING_PROBE` or `WAITING_RESPONSE`.
     pub state: u64,
@@ -120,7 +121,8 @@ pub struct Source {
     pub told_den: u64,
 }
 
-/// A packet in flight. Fields that its kind does not carry are sent blank: rate 0/1, the own line
+/// A packet in flight. Join and Probe carry a rate and the link named, Response these and tau,
+/// SetBottleneck beta. Fields that its kind does not carry are sent blank: rate 0/1, the own line
 /// named, `TAU_RESPONSE` and `NO`.
 #[derive(Clone, Copy, Debug, PartialEq, Eq)]
 pub struct Packet {
@@ -188,7 +190,7 @@ impl Source {
         maximum: 0,
         length: 0,
         path: [UNUSED as u64; PATH_LINKS],
-        set: IN_R,
+        set: NOT_IN_F,
         state: IDLE,
         upd_rcv: NO,
         bneck_rcv: NO,
@@ -234,6 +236,12 @@ impl Packet {
         tau: TAU_RESPONSE,
         beta: NO,
     };
+
+    /// Whether the packet's kind carries a rate lambda and the link eta that imposed it (001,
+    /// section III.B).
+    pub fn carries_rate(&self) -> bool {
+        matches!(self.kind, JOIN | PROBE | RESPONSE)
+    }
 }
 
 impl Table {

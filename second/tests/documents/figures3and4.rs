@@ -1,13 +1,13 @@
 //! 001, Figures 3 and 4, rule by rule: what a step at a source or destination sends and leaves
 //! behind, worked out by hand.
 
-use crate::common::{change, Machine};
+use crate::common::{change, leave, Machine};
 use crate::packets::{
     delivered, handed, leaving, packet, response, sent_by, set_bottleneck, with_rate, Held, OWN,
 };
 use second::machine::table::{
-    Table, BOTTLENECK, IDLE, IN_F, IN_R, JOIN, NO, PROBE, TAU_BOTTLENECK, TAU_RESPONSE, TAU_UPDATE,
-    UPDATE, WAITING_RESPONSE, YES,
+    Source, Table, BOTTLENECK, IDLE, IN_F, JOIN, LEAVE, LEFT, NO, NOT_IN_F, PROBE, TAU_BOTTLENECK,
+    TAU_RESPONSE, TAU_UPDATE, UPDATE, WAITING_RESPONSE, YES,
 };
 
 // 01, "Added here": any packet that reaches a source which has left is dropped.
@@ -50,6 +50,21 @@ fn source_table(state: u64, maximum: u64) -> Table {
     table
 }
 
+// Figure 3, lines 8 and 9: F is empty then. The rates and the path stay.
+#[test]
+fn leave_at_a_source() {
+    let before = source_table(IDLE, 0);
+    let mut machine = Machine::with(before.clone());
+    machine.take(leave(0));
+    assert_eq!(machine.table.packets, [packet(LEAVE, 0, 1)]);
+    let left = Source {
+        standing: LEFT,
+        set: NOT_IN_F,
+        ..before.sources[0]
+    };
+    assert_eq!(machine.table.sources[0], left);
+}
+
 // Figure 3, lines 11 to 18: idle, or noted for later. The rates held and told stay.
 #[test]
 fn change_at_a_source() {
@@ -59,7 +74,7 @@ fn change_at_a_source() {
     machine.take(change(0, 3));
     assert_eq!(machine.table.packets, [with_rate(PROBE, 0, 1, (3, 1), OWN)]);
     let source = machine.table.sources[0];
-    assert_eq!((source.set, source.state), (IN_R, WAITING_RESPONSE));
+    assert_eq!((source.set, source.state), (NOT_IN_F, WAITING_RESPONSE));
     assert_eq!((source.upd_rcv, source.bneck_rcv), (NO, NO));
     assert_eq!((source.num, source.told, source.told_num), (7, YES, 6));
 
@@ -82,7 +97,7 @@ fn update_at_a_source() {
         [with_rate(PROBE, 0, 1, (100, 1), OWN)]
     );
     let source = machine.table.sources[0];
-    assert_eq!((source.set, source.state), (IN_R, WAITING_RESPONSE));
+    assert_eq!((source.set, source.state), (NOT_IN_F, WAITING_RESPONSE));
     assert_eq!((source.upd_rcv, source.bneck_rcv), (YES, NO));
 
     let machine = delivered(source_table(WAITING_RESPONSE, 0), packet(UPDATE, 0, 0));
@@ -94,7 +109,7 @@ fn update_at_a_source() {
 #[test]
 fn bottleneck_at_a_source() {
     let mut table = source_table(IDLE, 0);
-    table.sources[0].set = IN_R;
+    table.sources[0].set = NOT_IN_F;
     let machine = delivered(table, packet(BOTTLENECK, 0, 0));
     assert_eq!(machine.table.packets, [set_bottleneck(0, 1, NO)]);
     let source = machine.table.sources[0];
@@ -104,10 +119,10 @@ fn bottleneck_at_a_source() {
     );
     // D = 7: the session stays in R of its own line, and the packet says so.
     let mut table = source_table(IDLE, 7);
-    table.sources[0].set = IN_R;
+    table.sources[0].set = NOT_IN_F;
     let machine = delivered(table, packet(BOTTLENECK, 0, 0));
     assert_eq!(machine.table.packets, [set_bottleneck(0, 1, YES)]);
-    assert_eq!(machine.table.sources[0].set, IN_R);
+    assert_eq!(machine.table.sources[0].set, NOT_IN_F);
     // Told already, or not idle: nothing.
     let mut table = source_table(IDLE, 0);
     table.sources[0].bneck_rcv = YES;
@@ -137,7 +152,7 @@ fn response_starts_a_new_cycle() {
 #[test]
 fn bottleneck_response_at_a_source() {
     let mut table = source_table(WAITING_RESPONSE, 0);
-    table.sources[0].set = IN_R;
+    table.sources[0].set = NOT_IN_F;
     let machine = delivered(table, response(TAU_BOTTLENECK, 0, 0, (5, 2), 0));
     assert_eq!(machine.table.packets, [set_bottleneck(0, 1, NO)]);
     let source = machine.table.sources[0];

@@ -1,9 +1,12 @@
 //! Refusal 14, the first two clauses: fields outside their range, rates not in lowest terms; and
 //! what is not looked at.
 
-use crate::common::{link, session, Machine};
+use crate::common::{deliver, link, session, Machine};
 use crate::handed::{damaged, each_fails, fails, sound};
-use second::machine::table::{Packet, Table};
+use crate::packets::packet;
+use second::machine::table::{
+    Packet, Table, BOTTLENECK, JOIN, LEAVE, PROBE, RESPONSE, SET_BOTTLENECK, UPDATE,
+};
 use second::machine::{passes_14, settled, Fault};
 
 #[test]
@@ -49,19 +52,64 @@ fn fields_of_sources_outside_their_range() {
 
 #[test]
 fn fields_of_packets_outside_their_range() {
-    let damages: [fn(&mut Table); 9] = [
+    let damages: [fn(&mut Table); 12] = [
         |table| table.packets[0].kind = 7,
         |table| table.packets[0].session = 32,
         |table| table.packets[0].hop = 10,
         |table| table.packets[0].hop = 99,
         |table| table.packets[0].direction = 5,
+        // What the second packet carries as a Join, and as the other kinds that carry something.
         |table| table.packets[1].named = 65,
-        |table| table.packets[1].tau = 3,
-        |table| table.packets[1].beta = 2,
-        // Also where the kind does not use the field: the first packet is a Leave.
-        |table| table.packets[0].named = 65,
+        |table| table.packets[1] = odd(PROBE, |packet| packet.named = 65),
+        |table| table.packets[1] = odd(PROBE, |packet| packet.den = 0),
+        |table| table.packets[1] = odd(RESPONSE, |packet| packet.named = 65),
+        |table| table.packets[1] = odd(RESPONSE, |packet| packet.tau = 3),
+        |table| table.packets[1] = odd(RESPONSE, |packet| packet.den = 0),
+        |table| table.packets[1] = odd(SET_BOTTLENECK, |packet| packet.beta = 2),
     ];
     each_fails(&damages, Fault::FieldOutsideRange);
+}
+
+// A packet of session 1 about to reach its link, with one field as it should not be.
+fn odd(kind: u64, damage: fn(&mut Packet)) -> Packet {
+    let mut odd = packet(kind, 1, 1);
+    damage(&mut odd);
+    odd
+}
+
+// The fields that a kind does not carry are not looked at: such a packet is delivered like a blank one.
+#[test]
+fn nothing_is_asked_of_what_a_kind_does_not_carry() {
+    let no_rate = |packet: &mut Packet| (packet.num, packet.den, packet.named) = (6, 0, 65);
+    for kind in [
+        JOIN,
+        PROBE,
+        RESPONSE,
+        UPDATE,
+        BOTTLENECK,
+        SET_BOTTLENECK,
+        LEAVE,
+    ] {
+        let blank = packet(kind, 1, 1);
+        let mut odd = blank;
+        if !blank.carries_rate() {
+            no_rate(&mut odd);
+        }
+        if kind != RESPONSE {
+            odd.tau = 9;
+        }
+        if kind != SET_BOTTLENECK {
+            odd.beta = 9;
+        }
+        let deliver_last = |last: Packet| {
+            let table = damaged(|table| table.packets[1] = last);
+            assert_eq!(passes_14(&table), Ok(()));
+            let mut machine = Machine::with(table);
+            machine.take(deliver(1));
+            machine.table
+        };
+        assert!(deliver_last(odd) == deliver_last(blank), "kind {kind}");
+    }
 }
 
 #[test]

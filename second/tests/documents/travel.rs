@@ -3,7 +3,7 @@
 use crate::common::{at_rest, deliver, leave, link, plain_session, session, taken, Machine};
 use crate::packets::{handed, packet, response, set_bottleneck, with_rate, Held, OWN};
 use second::machine::table::{
-    Packet, IN_F, IN_R, JOIN, LEAVE, LEFT, NO, RESPONSE, SET_BOTTLENECK, TAU_BOTTLENECK,
+    Packet, IN_F, JOIN, LEAVE, LEFT, NO, NOT_IN_F, RESPONSE, SET_BOTTLENECK, TAU_BOTTLENECK,
     TAU_RESPONSE, WAITING_PROBE, YES,
 };
 use second::machine::{passes_14, settled, Fault};
@@ -48,7 +48,7 @@ fn p3_step_by_step() {
         set_bottleneck(0, 2, YES),
     ];
     goes(&mut machine, expected);
-    assert_eq!(machine.table.sources[0].set, IN_R);
+    assert_eq!(machine.table.sources[0].set, NOT_IN_F);
 }
 
 // 01, "Slips to guard against": a leave takes the entries out link by link.

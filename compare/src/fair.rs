@@ -1,0 +1,59 @@
+//! A settled table has the rates of the calculation: every active session was told the rate that the
+//! records of the same links and sessions, with their present maxima, give.
+
+use second::machine::table::{Table as Other, YES};
+use umbraconga::{calculate, Table, Told};
+
+use crate::difference::{same, Difference};
+use crate::records::{link, session};
+use crate::tally::Tally;
+use crate::words::SESSIONS;
+
+/// Compares what the sessions of a settled table were told with the calculation.
+pub fn compare(second: &Other, ours: &Table, tally: &mut Tally) -> Result<(), Difference> {
+    let records = records_of(second);
+    let rates = calculate(&records).map_err(|refused| {
+        Difference::new(
+            "the calculation of a settled table",
+            &records,
+            refused,
+            "accepted",
+        )
+    })?;
+    for number in 0..SESSIONS {
+        let calculated = match rates.get(number) {
+            Some(share) => Told::Rate {
+                num: share.num,
+                den: share.den,
+            },
+            None => Told::NotActive,
+        };
+        let told = ours.told(number as u32);
+        same(
+            "the rate told and the one calculated",
+            &records,
+            told,
+            calculated,
+        )?;
+    }
+    tally.settled(rates.iter().count() as u64);
+    Ok(())
+}
+
+/// The records that declare a table's links, and its active sessions with their present maxima.
+pub fn records_of(table: &Other) -> Vec<u8> {
+    let mut bytes = Vec::new();
+    for (number, one) in table.links.iter().enumerate() {
+        if one.declared == YES {
+            bytes.extend(link(number as u8, one.capacity as u32));
+        }
+    }
+    for (number, source) in table.sources.iter().enumerate() {
+        if source.is_active() {
+            let path: Vec<u8> = source.path_links().iter().map(|&on| on as u8).collect();
+            let (access, maximum) = (source.access as u32, source.maximum as u32);
+            bytes.extend(session(number as u8, access, maximum, &path));
+        }
+    }
+    bytes
+}

@@ -1,0 +1,35 @@
+//! Compares the proved library (through `umbraconga`) with the second implementation (`second`),
+//! which was written from the documents alone. The program `compare` runs every sort of input of
+//! `sorts` on both and counts; the program `bench` times both on the same inputs.
+//!
+//! What is compared: of a calculation the answer and all three slices in full (`calculation`); of a
+//! run the report, the words of the table that are in use, the settled question, what every session
+//! was told, and after a refusal all words with those of the records taken before (`pair`). Where
+//! both sides say settled, the rates told are those of the calculation (`fair`).
+
+#![forbid(unsafe_code)]
+#![warn(missing_docs)]
+
+pub mod built;
+pub mod calculation;
+pub mod crowded;
+pub mod damage;
+pub mod difference;
+pub mod fair;
+pub mod faults;
+pub mod frame;
+pub mod loads;
+pub mod nearly;
+pub mod networks;
+pub mod odd;
+pub mod pair;
+pub mod purpose;
+pub mod random;
+pub mod recorded;
+pub mod records;
+pub mod runs;
+pub mod slices;
+pub mod sorts;
+pub mod tally;
+pub mod words;
+pub mod world;

@@ -1,0 +1,151 @@
+//! How much was compared, and which refusals and clauses of 14 were met.
+
+use std::collections::BTreeMap;
+use std::fmt;
+
+use second::machine::Fault;
+
+/// The clauses of refusal 14 in the order of its sentence.
+const CLAUSES: [Fault; 11] = [
+    Fault::FieldOutsideRange,
+    Fault::RateNotInLowestTerms,
+    Fault::PathOverUndeclaredLink,
+    Fault::PathOverLinkTwice,
+    Fault::PacketOffItsPath,
+    Fault::PacketGoingTheWrongWay,
+    Fault::SessionInBothSets,
+    Fault::EntryOffItsPath,
+    Fault::EntryOfAGoneSession,
+    Fault::SumPastCapacity,
+    Fault::SumsTooFine,
+];
+
+/// The counts of one part of the work; parts are added up.
+#[derive(Default)]
+pub struct Tally {
+    /// Calls compared, by sort of input.
+    calls: BTreeMap<&'static str, u64>,
+    /// Records that both sides took.
+    records: u64,
+    /// Tables compared in all their words that are in use.
+    tables: u64,
+    /// Settled tables whose rates told were compared with the calculation, and their sessions.
+    settled: u64,
+    sessions: u64,
+    /// How often the calculation met each refusal.
+    by_calculation: [u64; 16],
+    /// How often the machine did.
+    by_machine: [u64; 16],
+    clauses: [u64; CLAUSES.len()],
+    // The sort under which calls are counted now.
+    sort: &'static str,
+}
+
+impl Tally {
+    /// Counts the calls that follow under this sort.
+    pub fn now(&mut self, sort: &'static str) {
+        self.sort = sort;
+    }
+
+    /// A calculation was compared; 0 where it was accepted.
+    pub fn calculation(&mut self, refusal: u64) {
+        *self.calls.entry(self.sort).or_default() += 1;
+        self.by_calculation[refusal as usize] += 1;
+    }
+
+    /// A run was compared, and its tables; 0 where it was accepted.
+    pub fn run(&mut self, taken: u64, refusal: u64) {
+        *self.calls.entry(self.sort).or_default() += 1;
+        self.records += taken;
+        self.tables += 1;
+        self.by_machine[refusal as usize] += 1;
+    }
+
+    /// A settled table's rates were compared with the calculation.
+    pub fn settled(&mut self, sessions: u64) {
+        self.settled += 1;
+        self.sessions += sessions;
+    }
+
+    /// A handed table failed this clause of 14.
+    pub fn clause(&mut self, fault: Fault) {
+        for (clause, count) in CLAUSES.iter().zip(&mut self.clauses) {
+            *count += u64::from(*clause == fault);
+        }
+    }
+
+    /// Adds the counts of another part.
+    pub fn add(&mut self, other: &Tally) {
+        for (sort, calls) in &other.calls {
+            *self.calls.entry(sort).or_default() += calls;
+        }
+        self.records += other.records;
+        self.tables += other.tables;
+        self.settled += other.settled;
+        self.sessions += other.sessions;
+        add_each(&mut self.by_calculation, &other.by_calculation);
+        add_each(&mut self.by_machine, &other.by_machine);
+        add_each(&mut self.clauses, &other.clauses);
+    }
+
+    /// All calls compared.
+    pub fn calls(&self) -> u64 {
+        self.calls.values().sum()
+    }
+
+    /// The refusals and clauses that should have been met and were not: the calculation can meet 1
+    /// to 8 and 15, the machine 1 to 14.
+    pub fn not_met(&self) -> Vec<String> {
+        let by_calculation = (1..=8)
+            .chain([15])
+            .filter(|&number| self.by_calculation[number] == 0)
+            .map(|number| format!("refusal {number} of a calculation"));
+        let by_machine = (1..=14)
+            .filter(|&number| self.by_machine[number] == 0)
+            .map(|number| format!("refusal {number} of a run"));
+        let clauses = CLAUSES
+            .iter()
+            .zip(&self.clauses)
+            .filter(|(_, &count)| count == 0)
+            .map(|(clause, _)| format!("clause {clause:?} of 14"));
+        by_calculation.chain(by_machine).chain(clauses).collect()
+    }
+}
+
+fn add_each(counts: &mut [u64], others: &[u64]) {
+    for (count, other) in counts.iter_mut().zip(others) {
+        *count += other;
+    }
+}
+
+impl fmt::Display for Tally {
+    fn fmt(&self, f: &mut fmt::Formatter<'_>) -> fmt::Result {
+        for (sort, calls) in &self.calls {
+            writeln!(f, "{calls:>9} {sort}")?;
+        }
+        writeln!(f, "{:>9} calls in all", self.calls())?;
+        writeln!(
+            f,
+            "{:>9} records taken by the machine, {} tables compared",
+            self.records, self.tables
+        )?;
+        writeln!(
+            f,
+            "{:>9} settled tables, {} sessions in them told the calculation's rate",
+            self.settled, self.sessions
+        )?;
+        writeln!(
+            f,
+            "refusal    1 to 15, by calculations and by runs; 0 is accepted"
+        )?;
+        for number in 0..16 {
+            let (calculations, runs) = (self.by_calculation[number], self.by_machine[number]);
+            writeln!(f, "{number:>9} {calculations:>9} {runs:>9}")?;
+        }
+        writeln!(f, "clauses of 14")?;
+        for (clause, count) in CLAUSES.iter().zip(&self.clauses) {
+            writeln!(f, "{count:>9} {clause:?}")?;
+        }
+        Ok(())
+    }
+}

@@ -1,0 +1,148 @@
+//! Random events over a few links and sessions: joins, changes, leaves, declarations, deliveries in
+//! and out of turn, and damaged records.
+
+use second::machine::table::Packet;
+
+use crate::networks::damage;
+use crate::random::Random;
+use crate::records::{change, deliver, leave, link, session};
+
+/// How the next packet to deliver is chosen, one way for a whole run.
+#[derive(Clone, Copy)]
+enum Turn {
+    Random,
+    EarliestSent,
+    LatestSent,
+    // Packets of one session wait until there are no others.
+    Starving(u64),
+    // Packets on one way wait until there are no others.
+    OneWayLast(u64),
+}
+
+/// The links and sessions of a run.
+pub struct World {
+    links: Vec<u8>,
+    sessions: Vec<u8>,
+    turn: Turn,
+    largest_rate: usize,
+}
+
+/// Whether no earlier packet has the same session, hop and direction (01, "Added here").
+pub fn is_in_turn(packets: &[Packet], position: usize) -> bool {
+    let whereabouts = |packet: &Packet| (packet.session, packet.hop, packet.direction);
+    let here = whereabouts(&packets[position]);
+    packets[..position]
+        .iter()
+        .all(|earlier| whereabouts(earlier) != here)
+}
+
+impl World {
+    /// A world of at most this many links and sessions.
+    pub fn new(random: &mut Random, most_links: usize, most_sessions: usize) -> World {
+        let all: Vec<u8> = (0..64).collect();
+        let links = random.between(1, most_links);
+        let links = random.some_of(&all, links);
+        let sessions = random.between(1, most_sessions);
+        let sessions = random.some_of(&all[..32], sessions);
+        let turn = match random.under(6) {
+            0 | 1 => Turn::Random,
+            2 => Turn::EarliestSent,
+            3 => Turn::LatestSent,
+            4 => Turn::Starving(u64::from(random.one_of(&sessions))),
+            _ => Turn::OneWayLast(random.number() % 2),
+        };
+        let largest_rate = random.one_of(&[3, 6, 30, 1_000, 1_000_000]);
+        World {
+            links,
+            sessions,
+            turn,
+            largest_rate,
+        }
+    }
+
+    /// The records that declare most of the links; the others may be declared later.
+    pub fn declarations(&self, random: &mut Random) -> Vec<u8> {
+        let mut bytes = Vec::new();
+        for &number in &self.links {
+            if random.chance(90) {
+                bytes.extend(link(number, self.rate(random)));
+            }
+        }
+        bytes
+    }
+
+    fn rate(&self, random: &mut Random) -> u32 {
+        random.between(1, self.largest_rate) as u32
+    }
+
+    fn maximum(&self, random: &mut Random) -> u32 {
+        match random.chance(40) {
+            true => 0,
+            false => self.rate(random),
+        }
+    }
+
+    fn join(&self, random: &mut Random) -> Vec<u8> {
+        let number = random.one_of(&self.sessions);
+        let path = random.path(&self.links);
+        let (access, maximum) = (self.rate(random), self.maximum(random));
+        session(number, access, maximum, &path)
+    }
+
+    fn change(&self, random: &mut Random) -> Vec<u8> {
+        let number = random.one_of(&self.sessions);
+        change(number, self.maximum(random))
+    }
+
+    /// A delivery that is in turn, if there is a packet.
+    pub fn delivery(&self, random: &mut Random, packets: &[Packet]) -> Option<Vec<u8>> {
+        let waits = |&position: &usize| match self.turn {
+            Turn::Starving(session) => packets[position].session == session,
+            Turn::OneWayLast(direction) => packets[position].direction == direction,
+            _ => false,
+        };
+        let in_turn = (0..packets.len()).filter(|&position| is_in_turn(packets, position));
+        let (last, first): (Vec<usize>, Vec<usize>) = in_turn.partition(waits);
+        let choices = if first.is_empty() { last } else { first };
+        let position = match self.turn {
+            _ if choices.is_empty() => return None,
+            Turn::EarliestSent => choices[0],
+            Turn::LatestSent => choices[choices.len() - 1],
+            _ => random.one_of(&choices),
+        };
+        Some(deliver(position))
+    }
+
+    fn damaged(&self, random: &mut Random, packets: &[Packet]) -> Vec<u8> {
+        let mut bytes = match random.under(4) {
+            0 => self.join(random),
+            1 => self.change(random),
+            2 => leave(random.one_of(&self.sessions)),
+            _ => self.delivery(random, packets).unwrap_or_default(),
+        };
+        damage(&mut bytes, random);
+        if random.chance(20) {
+            bytes.truncate(random.under(bytes.len() + 1));
+        }
+        bytes
+    }
+
+    /// The next event, with the packets that are in flight.
+    pub fn event(&self, random: &mut Random, packets: &[Packet]) -> Vec<u8> {
+        match random.under(100) {
+            0..=11 => self.join(random),
+            12..=19 => self.change(random),
+            20..=25 => leave(random.one_of(&self.sessions)),
+            26 => {
+                let number = random.one_of(&self.links);
+                link(number, self.rate(random))
+            }
+            27..=29 => deliver(random.under(packets.len() + 2)),
+            30..=33 => self.damaged(random, packets),
+            _ => match self.delivery(random, packets) {
+                Some(record) => record,
+                None => self.join(random),
+            },
+        }
+    }
+}

@@ -1,0 +1,128 @@
+//! The machine: document 01's examples, refusals, what sessions were told, handed tables.
+
+use std::fs;
+use std::path::Path;
+
+use umbraconga::{Ran, Refused, Table, Told, TABLE_WORDS};
+
+// Link 0 of 10 and session 0 over it, which joins.
+const JOINED: [u8; 25] = [
+    1, 0, 0, 0, 0, 10, 2, 0, 0, 0, 0, 100, 0, 0, 0, 0, 1, 0, 255, 255, 255, 255, 255, 255, 255,
+];
+const DELIVER_FIRST: [u8; 3] = [5, 0, 0];
+
+fn refused(number: u64, place: u64) -> Option<Refused> {
+    Some(Refused { number, place })
+}
+
+fn joined() -> Table {
+    let mut table = Table::empty();
+    let ran = table.run(&JOINED);
+    let both = Ran {
+        taken: 2,
+        refused: None,
+    };
+    assert_eq!(ran, both);
+    table
+}
+
+#[test]
+fn the_examples_for_steps() {
+    let folder = Path::new(env!("CARGO_MANIFEST_DIR")).join("../examples/steps");
+    let names = [
+        "p1",
+        "p2",
+        "p3",
+        "joined",
+        "refused_1",
+        "refused_9",
+        "refused_11",
+        "refused_12",
+        "refused_13",
+    ];
+    for name in names {
+        let read = |end: &str| {
+            let file = folder.join(format!("{name}.{end}"));
+            fs::read(&file).unwrap_or_else(|error| panic!("{}: {error}", file.display()))
+        };
+        let mut table = Table::empty();
+        let Ran { taken, refused } = table.run(&read("bin"));
+        let mut printed = format!("taken {taken} {table}\n");
+        if let Some(refused) = refused {
+            printed += &format!("{refused}\n");
+        }
+        let text = String::from_utf8(read("txt")).expect("the texts are ASCII");
+        assert_eq!(printed, text, "{name}");
+    }
+}
+
+#[test]
+fn told_from_join_to_leave() {
+    let mut table = joined();
+    assert_eq!((table.told(0), table.in_flight()), (Told::None, 1));
+    assert_eq!(table.settled(), Ok(false));
+    while table.run(&DELIVER_FIRST).refused.is_none() {}
+    assert_eq!(table.told(0), Told::Rate { num: 10, den: 1 });
+    assert_eq!((table.settled(), table.in_flight()), (Ok(true), 0));
+    assert_eq!(table.run(&[3, 0]).taken, 1);
+    assert_eq!(table.told(0), Told::NotActive);
+    assert_eq!(table.settled(), Ok(false));
+    for other in [1, 31, 32, 63, u32::MAX] {
+        assert_eq!(table.told(other), Told::NotActive);
+    }
+}
+
+#[test]
+fn a_refused_record_changes_no_word() {
+    let mut table = joined();
+    let before = table.words().to_vec();
+    // Position 9 is past the end.
+    let ran = table.run(&[5, 0, 9]);
+    assert_eq!((ran.taken, ran.refused), (0, refused(11, 0)));
+    assert_eq!(table.words()[..], before);
+    let mut once = joined();
+    assert_eq!(once.run(&DELIVER_FIRST).refused, None);
+    // The first delivery is taken, the second is not.
+    let ran = table.run(&[5, 0, 0, 5, 0, 9]);
+    assert_eq!((ran.taken, ran.refused), (1, refused(11, 3)));
+    assert_eq!(ran.to_string(), "taken 1, refused 11 at 3");
+    assert_eq!(table.words(), once.words());
+}
+
+#[test]
+fn a_table_with_a_fault_is_refused() {
+    let mut words = joined().into_words();
+    // The capacity of link 0.
+    words[0] = 1_000_001;
+    let mut table = Table::from_words(words.clone());
+    assert_eq!(table.settled(), Err(refused(14, 0).expect("a refusal")));
+    for records in [&[][..], &DELIVER_FIRST, &[1; 40_000]] {
+        let ran = table.run(records);
+        assert_eq!((ran.taken, ran.refused), (0, refused(14, 0)));
+        assert_eq!(table.words(), &*words);
+    }
+    words[0] = 1_000_000;
+    assert_eq!(Table::from_words(words).settled(), Ok(false));
+}
+
+#[test]
+fn the_empty_table() {
+    let mut table = joined();
+    table.make_empty();
+    assert_eq!(table.words(), Table::empty().words());
+    assert_eq!(table.words(), &[0; TABLE_WORDS]);
+    assert_eq!((table.settled(), table.in_flight()), (Ok(true), 0));
+    assert_eq!(table.to_string(), "packets 0 settled yes");
+}
+
+#[test]
+fn in_words() {
+    let rate = Told::Rate { num: 10, den: 3 };
+    let words = [Told::NotActive, Told::None, rate].map(|told| told.to_string());
+    assert_eq!(words, ["not active", "none", "10/3"]);
+    let debug = format!("{:?}", joined());
+    assert_eq!(
+        debug,
+        "Table { settled: Ok(false), in_flight: 1, active: [0], .. }"
+    );
+}
