@@ -21,7 +21,7 @@ use Rattle.reachable.proofs.ReachablePasses.{reachable-passes}
 use Rattle.records.specs.Declaring.{declarationsOf}
 use Rattle.records.specs.declared.Declared.{Declared}
 use Rattle.records.specs.declared.Refusal.the-variants as refusal
-use Rattle.records.proofs.ReadRecords.{Bytes}
+use Rattle.records.specs.Format.{Bytes}
 use Rattle.table.specs.Words.{emptyWords, sourceOf}
 use Rattle.agreement.specs.Agrees.{Agrees, HasRate, calculatedRate, writtenRate}
 use Rattle.agreement.specs.Lines.{Declares, declarationsIn}

@@ -4,16 +4,14 @@
 use mathlib.Core.Bool.{Bool, true, _||_}
 use mathlib.Core.Path.{_≡_, ap, refl, subst, sym, _∙_}
 use Prim.Native.Nat.{ℕ, _+_, _-_, _*_, _≤_, _<_}
-use native.Mathlib.Nat.{eq-of-mul-eq-mul-right, le-of-mul-le-mul-right, lt-of-mul-lt-mul-right, mul-le-mul-right, mul-pos}
+use native.Mathlib.Nat.{eq-of-mul-eq-mul-right, lt-of-mul-lt-mul-right, mul-pos}
 use native.Mathlib.Omega.{arith}
 use borrow.Author.Tests.{eqb-true}
-use lib.Dec.{T}
-use Rattle.fairness.proofs.Sums.{sum-at}
 use Rattle.fractions.specs.declared.Rate.{Rate}
 use Rattle.fractions.specs.declared.Share.{Share}
 use Rattle.fractions.specs.declared.Share.the-variants as share
 use Rattle.fractions.specs.Fraction.{Lt, Same, Sized, eachOf, fineOf, frac, shareOf}
-use Rattle.fractions.proofs.Cases.{cases, eqb-T, or-hit}
+use Rattle.fractions.proofs.Cases.{cases, eqb-T, or-hit, so-passes}
 use Rattle.fractions.proofs.LowestTerms.{lowest-pos, lowest-same}
 use Rattle.fractions.proofs.Order.{le-lt-trans, le-of-same, lt-le-trans, lt-true, same-sym, same-trans}
 use Rattle.handed.specs.Passes.{SumIsRate}
@@ -25,9 +23,10 @@ use Rattle.links.specs.Links.{B, F, R, TotalSized, Workable, asBound, belowB, b
 use Rattle.links.proofs.Bounds.{bound-some}
 use Rattle.links.proofs.Sizes.{sum-sized}
 use Rattle.records.proofs.Somes.{clash}
-use Rattle.sessions.specs.Set.{has, hasOf, sizeOf}
+use Rattle.sessions.specs.Set.{has, sizeOf}
 use Rattle.soundness.specs.Sound.{weight}
-use Rattle.soundness.proofs.Weights.{Comes, members-weigh, size-sum}
+use Rattle.soundness.proofs.Holding.{is-in}
+use Rattle.soundness.proofs.Weights.{Comes, member-size, members-weigh, members-within}
 use Rattle.agreement.specs.Needed.{Shared}
 
 -- IN WHOLE NUMBERS ----------------------------------------------------------------------------------------------------
@@ -68,10 +67,6 @@ pub record RatedOver (N : ℕ) (x : ℕ → ℕ) (p : Place) : Type 0 where
   pub free : (s : ℕ) → s < 32 → inF p s ≡ true → 0 < sizeOf (R p) → x s * sizeOf (R p) + weight (F p) x < N * p .link .capacity
   pub fits : weight (F p) x ≤ N * p .link .capacity
 
--- a set with a member has a size above 0
-member-counts : (s w : ℕ) → s < 32 → hasOf s w ≡ true → 0 < sizeOf w
-member-counts s w l h = omega (arith, size-sum w, sum-at 32 (λ t. has t w) s l, eqb-true (has s w) 1 h)
-
 module _ (N : ℕ) (x : ℕ → ℕ) (p : Place) (pos : 0 < N) (work : Workable p) (fine : isFine (B p) ≡ true) (is : SumIsRate p)
     (shown : (s : ℕ) → s < 32 → holds p s ≡ true → Comes N (rateAt p s) (x s)) (rated : Shared p) where
   abbrev C : ℕ
@@ -87,8 +82,11 @@ module _ (N : ℕ) (x : ℕ → ℕ) (p : Place) (pos : 0 < N) (work : Workable 
   abbrev M : ℕ
   M = C * y .den - y .num
 
+  free-shown : (s : ℕ) → s < 32 → has s (F p) ≡ 1 → Comes N (rateAt p s) (x s)
+  free-shown s l h = shown s l (or-hit (inR p s) (inF p s) (eqb-T (has s (F p)) 1 h))
+
   sum-comes : Comes N y (weight (F p) x)
-  sum-comes = members-weigh N x p pos (λ s l h. shown s l (or-hit (inR p s) (inF p s) (eqb-T (has s (F p)) 1 h))) y (is .sums)
+  sum-comes = members-weigh N x p pos free-shown y (is .sums)
 
   sum-most : y .num ≤ C * y .den
   sum-most = let z : Sized C y = subst (TotalSized C) (is .sums) (sum-sized p work) in z .num
@@ -110,7 +108,7 @@ module _ (N : ℕ) (x : ℕ → ℕ) (p : Place) (pos : 0 < N) (work : Workable 
   -- a member of R has the rate B
   at-B : (s : ℕ) → s < 32 → inR p s ≡ true → Same (frac (x s) N) (frac M (y .den * k))
   at-B s l r =
-      let h = member-counts s (R p) l r in
+      let h = member-size (R p) s l (is-in (R p) s r) in
       let i = shown s l (ap (λ (b : Bool). b || inF p s) r) in
       let e : equalsB (bound.At (eachOf C y k)) (rateAt p s) ≡ true = subst (λ (b : Bound). equalsB b (rateAt p s) ≡ true) (B-is h) (rated .restricted s (omega arith) r) in
       same-trans (i .pos) (same-sym (i .same)) (same-trans (B-pos h) (record { cross = eqb-true _ _ e }) B-same)
@@ -118,7 +116,7 @@ module _ (N : ℕ) (x : ℕ → ℕ) (p : Place) (pos : 0 < N) (work : Workable 
   -- a member of F has less
   under-B : (s : ℕ) → s < 32 → inF p s ≡ true → 0 < k → Lt (frac (x s) N) (frac M (y .den * k))
   under-B s l r h =
-      let i = shown s l (or-hit (inR p s) (inF p s) (subst T (sym r) tt)) in
+      let i = shown s l (or-hit (inR p s) (inF p s) (so-passes (inF p s) r)) in
       let e : belowB (bound.At (eachOf C y k)) (rateAt p s) ≡ true = subst (λ (b : Bound). belowB b (rateAt p s) ≡ true) (B-is h) (rated .free s (omega arith) r) in
       le-lt-trans pos (le-of-same (same-sym (i .same))) (lt-le-trans (mul-pos (sum-comes .pos) h) (lt-true e) (le-of-same B-same))
 
@@ -130,5 +128,5 @@ module _ (N : ℕ) (x : ℕ → ℕ) (p : Place) (pos : 0 < N) (work : Workable 
       record {
         restricted = λ s l r. share-equal N S (x s) C k (y .num) (y .den) M (c .pos) (c .same .cross) left (at-B s l r .cross);
         free = λ s l r h. share-below N S (x s) C k (y .num) (y .den) M (c .pos) (c .same .cross) left (under-B s l r h .cross);
-        fits = le-of-mul-le-mul-right {k = y .den} (omega (arith, c .same .cross, mul-le-mul-right N sum-most)) (c .pos);
+        fits = members-within N x p pos free-shown y work (is .sums);
       }

@@ -21,7 +21,7 @@ use Rattle.fairness.proofs.SettledIsFair.{settled-is-fair}
 use Rattle.fairness.proofs.Sums.{sum-eq}
 use Rattle.fractions.specs.declared.Rate.{Rate}
 use Rattle.fractions.specs.Fraction.{Le, Same, frac, wholeOf}
-use Rattle.fractions.proofs.Cases.{and-both, and-join, or-either, same-test}
+use Rattle.fractions.proofs.Cases.{and-both, and-join, or-either, passes-so, same-test, so-passes}
 use Rattle.fractions.proofs.Order.{le-of-same, le-trans, same-sym, same-trans}
 use Rattle.handed.specs.Passes.{Passes}
 use Rattle.handed.proofs.SumsAreRates.{passes-sums}
@@ -39,15 +39,6 @@ use Rattle.agreement.specs.Needed.{Needed}
 use Rattle.agreement.proofs.Poses.{Poses}
 use Rattle.agreement.proofs.SettledEntries.{entry-active, entry-on-path, settled-links, source-of-active}
 use Rattle.agreement.proofs.SettledLinks.{RatedOver, rated-over}
-
--- TESTS ---------------------------------------------------------------------------------------------------------------
-
-passes-so : (b : Bool) → T b → b ≡ true
-passes-so true t = refl
-passes-so false t = absurd t
-
-so-passes : (b : Bool) → b ≡ true → T b
-so-passes b e = subst T (sym e) tt
 
 -- THE WORDS OF A LINK -------------------------------------------------------------------------------------------------
 

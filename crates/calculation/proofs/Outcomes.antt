@@ -22,8 +22,8 @@ use Rattle.records.specs.declared.End.{End}
 use Rattle.records.specs.declared.End.the-variants as end
 use Rattle.records.specs.declared.Refusal.{Refusal}
 use Rattle.records.specs.declared.Refusal.the-variants as refusal
+use Rattle.records.specs.Format.{Bytes}
 use Rattle.records.proofs.KeepsRanges.{declarations-in-range}
-use Rattle.records.proofs.ReadRecords.{Bytes}
 use Rattle.filling.specs.Lines.{Ranges, problemOf}
 use Rattle.calculation.specs.Calculating.{Ordered, Outcome, afterRecords, calculateOf, doneOf, refusing, resultsOf}
 use Rattle.calculation.specs.declared.Calculated.{Calculated}

@@ -49,8 +49,9 @@ sendUpOf e b w r = appended w (sentFrom r (hopOf w r e) (burstKind b))
 unfoldable pub sendAllOf : List ℕ → ℕ → Burst → ℕ → List ℕ
 sendAllOf w e b to = walk (sendUpOf e b) w (members to)
 
--- the sessions of a set whose path has link e: to no other can link e send. In a table that passes the test of refusal 14 all of them have it; an
--- entry off its session's path can come about only from a handed table with a Join and no Leave behind it of a session that has left
+-- the sessions of a set whose path has link e: to no other can link e send. In a table that passes the test of refusal 14 all of them have it
+-- (`burst-on-path`); an entry off its session's path can come about only from a handed table with a Join and no Leave behind it of a session that has
+-- left
 abbrev pub addOnPath : List ℕ → ℕ → ℕ → ℕ → ℕ
 addOnPath w e a r = cond (eqb (hopOf w r e) 0) a (put r a)
 

@@ -2,7 +2,7 @@
 -- Assumes nothing.
 use mathlib.Core.Bool.{Bool, _&&_, _||_, cond, false, not, true}
 use mathlib.Core.Logic.{_⊎_, inl, inr}
-use mathlib.Core.Path.{_≡_, ap, refl, sym}
+use mathlib.Core.Path.{_≡_, ap, refl, subst, sym}
 use Prim.Native.Nat.{ℕ, zero, suc, _*_, _≤_, _<_}
 use native.Mathlib.Decide.{decLe}
 use native.Mathlib.Omega.{arith}
@@ -91,6 +91,13 @@ cond-miss true a b h = absurd h
 cond-miss false a b h = refl
 
 -- TESTS AS EQUATIONS --------------------------------------------------------------------------------------------------
+
+pub passes-so : (b : Bool) → T b → b ≡ true
+passes-so true t = refl
+passes-so false t = absurd t
+
+pub so-passes : (b : Bool) → b ≡ true → T b
+so-passes b e = subst T (sym e) tt
 
 pub not-true : (a : Bool) → not a ≡ true → a ≡ false
 not-true true e = sym e

@@ -29,9 +29,9 @@ fine-empty : (e : ℕ) → isFine (B (placeOf emptyWords e)) ≡ true
 unfolding B boundOf onesIn
 fine-empty e = rw (empty-sum e, empty-R e)
 
-nothing-wrong : Passes emptyWords
+pub empty-is-passing : Passes emptyWords
 unfolding countFits linkFits standingFits
-nothing-wrong = record {
+empty-is-passing = record {
   count = rw (empty-word 9152);
   links = λ e l. rw (empty-word (e * 3), empty-word (e * 3 + 1), empty-word (e * 3 + 2));
   entries = λ e s l k t. not-held e s t;
@@ -53,4 +53,4 @@ nothing-wrong = record {
 }
 
 pub empty-passes : passes14Of emptyWords ≡ true
-empty-passes = means-passes emptyWords nothing-wrong
+empty-passes = means-passes emptyWords empty-is-passing

@@ -1,21 +1,20 @@
 -- The sessions that a burst goes to: those of a set whose paths have the link.
 -- Assumes nothing.
-use mathlib.Core.Bool.{Bool, cond, false, true}
+use mathlib.Core.Bool.{Bool, cond, false}
 use mathlib.Core.List.{List}
 use mathlib.Core.Path.{_≡_, ap, refl, subst, sym, _∙_}
 use Prim.Native.Nat.{ℕ, zero, suc, _+_, _/_, _%_, _^_, _<_}
 use native.Mathlib.Decide.{ℕ-discrete}
 use native.Mathlib.Omega.{arith}
-use borrow.Author.Tests.{eqb-false}
+use borrow.Author.Tests.{eqb-false, ne-eqb}
 use lib.Dec.{eqb}
 use lib.ListN.{length}
 use Rattle.events.specs.Sending.{addOnPath, hopOf, onPathOf}
 use Rattle.fractions.proofs.Cases.{cases}
-use Rattle.records.proofs.Somes.{clash}
 use Rattle.sessions.specs.Set.{consIf, has, members, membersFrom, put, sizeOf}
 use Rattle.sessions.proofs.Counts.{ones-in}
 use Rattle.sessions.proofs.Members.{has-put-other, has-zero, put-lt}
-use Rattle.sessions.proofs.Walks.{members-length, walk-keeps}
+use Rattle.sessions.proofs.Walks.{members-length, members-put, walk-cong, walk-keeps}
 use Rattle.reachable.proofs.Kept.{hop-on}
 use Rattle.reachable.proofs.Sends.{Each, Sessions, more, nobody}
 use Rattle.reachable.proofs.SentPackets.{Crosses, Crossing}
@@ -72,3 +71,11 @@ on-path-crosses w e to = each-member (Crosses w e) (onPathOf w e to) (λ r l h. 
     crosses : (r : ℕ) → r < 32 → (n : ℕ) → hopOf w r e ≡ n → (hopOf w r e ≡ 0 → ⊥) → Crosses w e r
     crosses r l zero q f = absurd (f q)
     crosses r l (suc n) q f = let o = hop-on w r e (omega (arith, q)) in record { session = l; joined = o .joined; upto = o .upto }
+
+-- where the link is on the paths of all of them, none is left out
+pub on-path-all : (w : List ℕ) (e to : ℕ) → to < 2 ^ 32 → ((r : ℕ) → r < 32 → has r to ≡ 1 → 0 < hopOf w r e) → onPathOf w e to ≡ to
+unfolding onPathOf
+on-path-all w e to few on =
+    walk-cong (addOnPath w e) (λ a r. put r a) 32 to
+    (λ r l h a. ap (λ (b : Bool). cond b a (put r a)) (ne-eqb (hopOf w r e) 0 (λ q. omega (arith, q, on r l h)))) 0
+    ∙ members-put 32 to few

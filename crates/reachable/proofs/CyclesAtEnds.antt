@@ -39,18 +39,18 @@ module _ (w : List ℕ) (j : ℕ) (i : Inv w) (c : Cycle w) (h : j < countOf w) 
   s = p .session
 
   abbrev others : List Packet
-  others = rest w j i h
+  others = rest w j
 
   ok : PacketOk w p
-  ok = packet-at w j i h
+  ok = packet-at w j (i .safe) h
 
   ls : s < 32
   ls = ok .within .session
 
   at-source-cycle : SourceAfter w p others v → Cycle v
   at-source-cycle a =
-      source-keeps-cycle w i c s ls (p .kind) (sourceDoes w p) (source-cycle (p .kind) (sourceOf w s)) others v a (rest-ok w j i h)
-      (left-awaited w j i c h) (left-fewer w j i c h) (λ t. alone w j i c h ls (response-in-cycle (p .kind) t))
+      source-keeps-cycle w i c s ls (p .kind) (sourceDoes w p) (source-cycle (p .kind) (sourceOf w s)) others v a (rest-ok w j (i .safe) h)
+      (left-awaited w j (i .safe) c h) (left-fewer w j (i .safe) c h) (λ t. alone w j (i .safe) c h ls (response-in-cycle (p .kind) t))
 
   -- what the destination sends goes up, and all links that were behind p still are behind it
   module _ (far : hopsOf w s < p .hop) (a : EndAfter w p others v) where
@@ -62,7 +62,7 @@ module _ (w : List ℕ) (j : ℕ) (i : Inv w) (c : Cycle w) (h : j < countOf w) 
           new = λ t. absurd (clash (isJoin k) t (on .join));
           waits = λ t e l u n.
               subst (λ (x : Place). Waiting x s) (sym (a .lines .place e l))
-              (taken-awaited w j i c h .waits (for t) e l (subst (λ (x : Place). Held x s) (a .lines .place e l) u)
+              (taken-awaited w j (i .safe) c h .waits (for t) e l (subst (λ (x : Place). Held x s) (a .lines .place e l) u)
               (omega (arith, n, front-up s (p .hop) k (on .way) (omega (arith, far)), hop-same w v s (a .lines .path s ls) e, hop-front p)));
         })
         none
@@ -70,16 +70,16 @@ module _ (w : List ℕ) (j : ℕ) (i : Inv w) (c : Cycle w) (h : j < countOf w) 
     at-destination-cycle : Cycle v
     at-destination-cycle =
         let o = destinationStepOf (p .kind) in
-        moved-cycle w j i c h v (sentByEnd p) (a .packets) (a .lines .source)
+        moved-cycle w j (i .safe) c h v (sentByEnd p) (a .packets) (a .lines .source)
         (λ r l n. (a .lines .path r l, λ e m u. same-stays w v r e (a .lines .place e m) u))
         (λ r. onward-for r s (p .hop) (p .kind) o (destination-for-cycle (p .kind)))
         (end-awaited o (destination-done (p .kind) (ok .within .kind)) (destination-for-cycle (p .kind)))
 
 pub deliver-cycle : (w : List ℕ) (j : ℕ) → Inv w → Cycle w → Cycle (deliverOf w j .words)
 deliver-cycle w j i c =
-    deliver-either Cycle w j i c
+    deliver-either Cycle w j (i .safe) c
     (λ h turn. record {
       at-source = λ zero-hop v a. at-source-cycle w j i c h v a;
       at-destination = λ far v a. at-destination-cycle w j i c h v far a;
-      at-link = λ low high v fine a. link-cycle w j i c h low high v a;
+      at-link = λ low high v fine a. link-cycle w j (i .safe) c h low high v a;
     })

@@ -4,7 +4,7 @@ use mathlib.Core.Bool.{Bool, false, true}
 use mathlib.Core.List.{List, [], _∷_}
 use mathlib.Core.Logic.{_⊎_, inl, inr}
 use mathlib.Core.Path.{_≡_, ap, refl, subst, sym, _∙_}
-use Prim.Native.Nat.{ℕ, _+_, _-_, _<_, _≤_}
+use Prim.Native.Nat.{ℕ, _+_, _<_, _≤_}
 use native.Mathlib.Decide.{ℕ-discrete}
 use native.Mathlib.Omega.{arith}
 use Rattle.events.specs.Sending.{burstKind, hopOf, nextHop, sentFrom}
@@ -24,12 +24,12 @@ use Rattle.tasks.specs.declared.Onward.the-variants as onward
 use Rattle.tasks.specs.declared.Packet.{Packet}
 use Rattle.tasks.specs.Packets.{goesDown}
 use Rattle.reachable.specs.Cycle.{Awaited, Cycle, cyclesOf, frontOf}
-use Rattle.reachable.specs.Invariant.{Every, Inv, also, none}
+use Rattle.reachable.specs.Invariant.{Every, Safe, also, none}
 use Rattle.reachable.proofs.CycleCounts.{burst-cycles, cycles-append, onward-for}
 use Rattle.reachable.proofs.CycleFrame.{Stays, front-down, front-up, hop-front, join-in-cycle, not-awaited, response-in-cycle, same-stays}
 use Rattle.reachable.proofs.CyclesMoved.{alone, moved-cycle, taken-awaited}
 use Rattle.reachable.proofs.Deliveries.{packet-at, rest}
-use Rattle.reachable.proofs.Kept.{hop-same, same-hop}
+use Rattle.reachable.proofs.Kept.{hop-same, one-or-other, same-hop}
 use Rattle.reachable.proofs.LinkSteps.{LinkAfter, burstSessions, hop-here, link-below, link-did, linkAt, linkDoes, sentByLink}
 use Rattle.reachable.proofs.PacketLists.{every-append}
 use Rattle.reachable.proofs.Sends.{burstTo, onwardTo}
@@ -45,9 +45,9 @@ unfolding burstTo
 burst-awaited v w e k [] n = none
 burst-awaited v w e k (r ∷ l) n = also (not-awaited v (sentFrom r (hopOf w r e) k) n) (burst-awaited v w e k l n)
 
-module _ (w : List ℕ) (j : ℕ) (i : Inv w) (c : Cycle w) (h : j < countOf w)
+module _ (w : List ℕ) (j : ℕ) (i : Safe w) (c : Cycle w) (h : j < countOf w)
     (low : 0 < packetOf w j .hop) (high : packetOf w j .hop ≤ hopsOf w (packetOf w j .session)) (v : List ℕ)
-    (a : LinkAfter w (packetOf w j) (rest w j i h) v) where
+    (a : LinkAfter w (packetOf w j) (rest w j) v) where
   abbrev p : Packet
   p = packetOf w j
 
@@ -70,7 +70,7 @@ module _ (w : List ℕ) (j : ℕ) (i : Inv w) (c : Cycle w) (h : j < countOf w)
   at = hop-here w j i h low high
 
   abbrev others : List Packet
-  others = rest w j i h
+  others = rest w j
 
   held-here : (r : ℕ) → Held (placeOf v e) r → Held (d .place) r
   held-here r u = subst (λ (x : Place). Held x r) (a .here) u
@@ -97,14 +97,12 @@ module _ (w : List ℕ) (j : ℕ) (i : Inv w) (c : Cycle w) (h : j < countOf w)
         go (inr k) = absurd (apart (k .0) (response-in-cycle (p .kind) (k .1)))
 
     stays : Stays w v r
-    stays f l u = go (ℕ-discrete f e)
-      where
-        go : Dec (f ≡ e) → Held (placeOf w f) r × (Waiting (placeOf w f) r → Waiting (placeOf v f) r)
-        go (yes q) =
-            let g = held-here r (subst (λ (x : ℕ). Held (placeOf v x) r) q u) in
-            subst (λ (x : ℕ). Held (placeOf w x) r × (Waiting (placeOf w x) r → Waiting (placeOf v x) r)) (sym q)
-            (was-held g, λ k. subst (λ (x : Place). Waiting x r) (sym (a .here)) (still-waits g k))
-        go (no n) = same-stays w v r f (a .elsewhere f l n) u
+    stays f l =
+        one-or-other (λ (x : ℕ). Held (placeOf v x) r → Held (placeOf w x) r × (Waiting (placeOf w x) r → Waiting (placeOf v x) r)) e f
+        (λ u.
+        let g = held-here r u in
+        (was-held g, λ k. subst (λ (x : Place). Waiting x r) (sym (a .here)) (still-waits g k)))
+        (λ m u. same-stays w v r f (a .elsewhere f l m) u)
 
   -- THE PACKET THAT GOES ON ---------------------------------------------------------------------------------------------
 

@@ -11,27 +11,27 @@ use Rattle.soundness.specs.ProbeCycle.{inCycle}
 use Rattle.table.specs.Words.{countOf, packetOf, packetsOf, pathOf, sourceOf}
 use Rattle.tasks.specs.declared.Packet.{Packet}
 use Rattle.reachable.specs.Cycle.{Awaited, Cycle, cycleOf, cyclesOf}
-use Rattle.reachable.specs.Invariant.{Every, Inv}
+use Rattle.reachable.specs.Invariant.{Every, Safe}
 use Rattle.reachable.proofs.CycleCounts.{cycle-own, cycles-parted}
 use Rattle.reachable.proofs.CycleFrame.{Stays, cycle-after}
 use Rattle.reachable.proofs.Deliveries.{before, behind, each-at, each-other, parted, rest, rest-ok}
 
 -- packet p stands at place j
-module _ (w : List ℕ) (j : ℕ) (i : Inv w) (c : Cycle w) (h : j < countOf w) where
+module _ (w : List ℕ) (j : ℕ) (i : Safe w) (c : Cycle w) (h : j < countOf w) where
   abbrev p : Packet
   p = packetOf w j
 
   abbrev others : List Packet
-  others = rest w j i h
+  others = rest w j
 
   pub taken-awaited : Awaited w p
   taken-awaited = each-at (Awaited w) w j h (c .awaited)
 
   pub left-awaited : Every (Awaited w) others
-  left-awaited = each-other w j i h (Awaited w) (c .awaited)
+  left-awaited = each-other w j h (Awaited w) (c .awaited)
 
   counts : (r : ℕ) → cyclesOf r (packetsOf w) ≡ cycleOf r (p .session) (p .kind) + cyclesOf r others
-  counts r = ap (cyclesOf r) (parted w j i h) ∙ cycles-parted r (before w j i h) p (behind w j i h)
+  counts r = ap (cyclesOf r) (parted w j h) ∙ cycles-parted r (before w j) p (behind w j)
 
   pub left-fewer : (r : ℕ) → cyclesOf r others ≤ cyclesOf r (packetsOf w)
   left-fewer r = omega (arith, counts r)

@@ -1,7 +1,7 @@
 -- A join, a leave, a change of a maximum and the declaration of a link keep the law of probe cycles, and the empty table has it.
 -- Assumes nothing.
 use mathlib.Core.Bool.{true}
-use mathlib.Core.List.{List, []}
+use mathlib.Core.List.{List, [], append-nil}
 use mathlib.Core.Path.{_≡_, ap, refl, subst, sym, _∙_}
 use Prim.Native.Nat.{ℕ, _+_, _<_, _≤_}
 use native.Mathlib.Decide.{ℕ-discrete}
@@ -15,6 +15,7 @@ use Rattle.links.specs.declared.Place.{Place}
 use Rattle.links.specs.Links.{isIdle}
 use Rattle.records.proofs.Somes.{clash}
 use Rattle.records.specs.Format.{pathOk}
+use Rattle.soundness.proofs.Holding.{nobody-held}
 use Rattle.soundness.specs.ProbeCycle.{Waiting, isResponse}
 use Rattle.soundness.specs.Sound.{Held}
 use Rattle.table.specs.Words.{emptyWords, packetsOf, placeOf, sourceOf}
@@ -26,13 +27,14 @@ use Rattle.tasks.specs.declared.Onward.{Onward}
 use Rattle.tasks.specs.declared.Onward.the-variants as onward
 use Rattle.tasks.specs.declared.Packet.{Packet}
 use Rattle.reachable.specs.Cycle.{Awaited, Cycle, cyclesOf}
-use Rattle.reachable.specs.Invariant.{Every, Inv, also, none}
+use Rattle.reachable.specs.Invariant.{Every, Inv, Safe, also, none}
 use Rattle.reachable.proofs.CycleCounts.{no-cycles, onward-most, onward-other}
 use Rattle.reachable.proofs.CycleFrame.{Stays, cycle-after, same-stays}
 use Rattle.reachable.proofs.CyclesAtSources.{source-keeps-cycle}
-use Rattle.reachable.proofs.Declares.{Declared, declare-either, nobody-held}
-use Rattle.reachable.proofs.JoinSteps.{Joined, join-either, theJoin}
-use Rattle.reachable.proofs.Sends.{append-nothing, onwardTo}
+use Rattle.reachable.proofs.DeclareSteps.{Declared, declare-either}
+use Rattle.reachable.proofs.JoinSteps.{Joined, join-either, no-entry-left, theJoin}
+use Rattle.reachable.proofs.Kept.{one-or-other}
+use Rattle.reachable.proofs.Sends.{onwardTo}
 use Rattle.reachable.proofs.SessionSteps.{change-either, leave-either}
 use Rattle.reachable.proofs.SourceCycles.{changing-cycle, leaving-cycle}
 
@@ -44,16 +46,16 @@ noResponse = kind.Update
 
 pub leave-cycle : (w : List ℕ) (s : ℕ) → s < 32 → Inv w → Cycle w → Cycle (leaveOf w s .words)
 leave-cycle w s ls i c =
-    leave-either Cycle w s ls i c
+    leave-either Cycle w s ls (i .safe) c
     (λ active v a.
-    source-keeps-cycle w i c s ls noResponse (leavingOf (sourceOf w s)) (leaving-cycle noResponse (sourceOf w s)) (packetsOf w) v a (i .packets)
+    source-keeps-cycle w i c s ls noResponse (leavingOf (sourceOf w s)) (leaving-cycle noResponse (sourceOf w s)) (packetsOf w) v a (i .safe .packets)
     (c .awaited) (λ r. omega arith) (λ t. absurd (clash (isResponse noResponse) t refl)))
 
 pub change-cycle : (w : List ℕ) (s m : ℕ) → s < 32 → m ≤ 1000000 → Inv w → Cycle w → Cycle (changeOf w s m .words)
 change-cycle w s m ls lm i c =
-    change-either Cycle w s ls i c m lm
+    change-either Cycle w s ls (i .safe) c m lm
     (λ active v done a.
-    source-keeps-cycle w i c s ls noResponse (changingOf (sourceOf w s) m) (changing-cycle noResponse (sourceOf w s) m) (packetsOf w) v a (i .packets)
+    source-keeps-cycle w i c s ls noResponse (changingOf (sourceOf w s) m) (changing-cycle noResponse (sourceOf w s) m) (packetsOf w) v a (i .safe .packets)
     (c .awaited) (λ r. omega arith) (λ t. absurd (clash (isResponse noResponse) t refl)))
 
 -- JOIN ----------------------------------------------------------------------------------------------------------------
@@ -85,11 +87,11 @@ module _ (w : List ℕ) (i : Inv w) (c : Cycle w) (s : ℕ) (x : Rate) (v : List
   other r n q = omega (arith, n, none-left, ap (λ (y : ℕ). cyclesOf y (packetsOf w)) q)
 
   no-entry : (e : ℕ) → e < 64 → Held (placeOf v e) s → ⊥
-  no-entry e l h = a .no-entry e l (subst (λ (y : Place). Held y s) (a .places e l) h)
+  no-entry e l h = no-entry-left w s x v i a e l (subst (λ (y : Place). Held y s) (a .places e l) h)
 
   joined-cycle : Cycle v
   joined-cycle =
-      cycle-after w v (packetsOf w) sent (a .packets) (i .packets) (c .awaited)
+      cycle-after w v (packetsOf w) sent (a .packets) (i .safe .packets) (c .awaited)
       (λ r l n. (a .paths r l (other r n), λ e m h. same-stays w v r e (a .places e m) h))
       (λ r l. one r l (ℕ-discrete s r))
       (λ r l t. idle r l (ℕ-discrete s r) t)
@@ -101,27 +103,26 @@ pub join-cycle : (bytes w : List ℕ) (s access maximum n at : ℕ) → s < 32 �
     → Cycle w
     → Cycle (joinOf bytes w s access maximum n at .words)
 join-cycle bytes w s access maximum n at ls a0 a1 m1 ok whole i c =
-    join-either Cycle bytes w s access maximum n at ls a0 a1 m1 ok whole i c (λ x v a. joined-cycle w i c s x v a)
+    join-either Cycle bytes w s access maximum n at ls a0 a1 m1 ok whole (i .safe) c (λ x v a. joined-cycle w i c s x v a)
 
 -- DECLARE -------------------------------------------------------------------------------------------------------------
 
-module _ (w : List ℕ) (i : Inv w) (c : Cycle w) (e : ℕ) (v : List ℕ) (a : Declared w e v) where
+module _ (w : List ℕ) (i : Safe w) (c : Cycle w) (e : ℕ) (v : List ℕ) (a : Declared w e v) where
   stays : (r : ℕ) → Stays w v r
-  stays r f l h = go (ℕ-discrete f e)
-    where
-      go : Dec (f ≡ e) → Held (placeOf w f) r × (Waiting (placeOf w f) r → Waiting (placeOf v f) r)
-      go (yes q) = absurd (nobody-held (placeOf v e) (a .no-R) (a .no-F) r (subst (λ (x : ℕ). Held (placeOf v x) r) q h))
-      go (no n) = same-stays w v r f (a .elsewhere f l n) h
+  stays r f l =
+      one-or-other (λ (x : ℕ). Held (placeOf v x) r → Held (placeOf w x) r × (Waiting (placeOf w x) r → Waiting (placeOf v x) r)) e f
+      (λ h. absurd (nobody-held (placeOf v e) (a .no-R) (a .no-F) r h))
+      (λ n h. same-stays w v r f (a .elsewhere f l n) h)
 
   declared-cycle : Cycle v
   unfolding cyclesOf
   declared-cycle =
-      cycle-after w v (packetsOf w) [] (a .packets ∙ append-nothing (packetsOf w)) (i .packets) (c .awaited) (λ r l n. (a .paths r l, stays r))
+      cycle-after w v (packetsOf w) [] (a .packets ∙ sym (append-nil (packetsOf w))) (i .packets) (c .awaited) (λ r l n. (a .paths r l, stays r))
       (λ r l. omega (arith, c .one r l))
       (λ r l t. omega (arith, c .idle r l (ap (λ (z : Source). isIdle (z .mu)) (sym (a .sources r l)) ∙ t)))
       none
 
-pub declare-cycle : (w : List ℕ) (e c : ℕ) → e < 64 → c ≤ 1000000 → Inv w → Cycle w → Cycle (declareOf w e c .words)
+pub declare-cycle : (w : List ℕ) (e c : ℕ) → e < 64 → c ≤ 1000000 → Safe w → Cycle w → Cycle (declareOf w e c .words)
 declare-cycle w e c le lc i k = declare-either Cycle w e c le lc i k (λ v a. declared-cycle w i k e v a)
 
 -- THE EMPTY TABLE -----------------------------------------------------------------------------------------------------

@@ -15,7 +15,7 @@ use Rattle.records.proofs.Somes.{clash}
 use Rattle.table.specs.Words.{countOf, packetOf, packetsOf, removed}
 use Rattle.table.proofs.Packets.{count-removed, length-packets, packets-at, packets-removed}
 use Rattle.tasks.specs.declared.Packet.{Packet}
-use Rattle.reachable.specs.Invariant.{Every, Fits, Inv, PacketOk}
+use Rattle.reachable.specs.Invariant.{Every, Fits, PacketOk, Safe}
 use Rattle.reachable.proofs.FitsKept.{fits-removed}
 use Rattle.reachable.proofs.Follows.{NotOvertaken}
 use Rattle.reachable.proofs.Lines.{SameLines, lines-removed}
@@ -28,39 +28,44 @@ each-at P w i h f =
     let z = packetOf w i in
     subst P (packets-at w i z h) (every-at z (packetsOf w) i (omega (arith, length-packets w)) f)
 
-pub packet-at : (w : List ℕ) (i : ℕ) → Inv w → i < countOf w → PacketOk w (packetOf w i)
-packet-at w i v h = each-at (PacketOk w) w i h (v .packets)
+pub packet-at : (w : List ℕ) (i : ℕ) → Safe w → i < countOf w → PacketOk w (packetOf w i)
+packet-at w i o h = each-at (PacketOk w) w i h (o .packets)
 
 same-lane : (p q : Packet) → p .session ≡ q .session → p .hop ≡ q .hop → p .down ≡ true → q .down ≡ true → sameLane p q ≡ true
 same-lane p q s h d e =
     ap₂ _&&_ (eq-eqb (p .session) (q .session) s) (ap₂ _&&_ (eq-eqb (p .hop) (q .hop) h) (ap₂ sameWay d e))
 
-module _ (w : List ℕ) (i : ℕ) (v : Inv w) (h : i < countOf w) where
-  abbrev pub before : List Packet
-  before = take i (packetsOf w)
+-- the packets before the one at place i, those behind it, and all but it
+abbrev pub before : List ℕ → ℕ → List Packet
+before w i = take i (packetsOf w)
 
-  abbrev pub behind : List Packet
-  behind = drop (suc i) (packetsOf w)
+abbrev pub behind : List ℕ → ℕ → List Packet
+behind w i = drop (suc i) (packetsOf w)
 
-  -- the packets but the one that is delivered
-  abbrev pub rest : List Packet
-  rest = before ++ behind
+abbrev pub rest : List ℕ → ℕ → List Packet
+rest w i = before w i ++ behind w i
 
-  pub parted : packetsOf w ≡ before ++ packetOf w i ∷ behind
+module _ (w : List ℕ) (i : ℕ) (h : i < countOf w) where
+  pub parted : packetsOf w ≡ before w i ++ packetOf w i ∷ behind w i
   parted =
       let z = packetOf w i in
-      split-at (packetsOf w) i z (omega (arith, length-packets w)) ∙ ap (λ (p : Packet). before ++ p ∷ behind) (packets-at w i z h)
+      split-at (packetsOf w) i z (omega (arith, length-packets w)) ∙ ap (λ (p : Packet). before w i ++ p ∷ behind w i) (packets-at w i z h)
 
-  pub taken-out : packetsOf (removed w i) ≡ rest
-  taken-out = packets-removed w i (v .fits .long) h
+  -- what holds of every packet in flight holds of the others
+  pub each-other : (P : Packet → Type 0) → Every P (packetsOf w) → Every P (rest w i)
+  each-other P f = every-without (before w i) (packetOf w i) (behind w i) (subst (Every P) parted f)
+
+module _ (w : List ℕ) (i : ℕ) (o : Safe w) (h : i < countOf w) where
+  pub taken-out : packetsOf (removed w i) ≡ rest w i
+  taken-out = packets-removed w i (o .fits .long) h
 
   -- an earlier packet of the same session, hop and direction would be delivered first
-  pub in-turn : inTurnOf w i ≡ true → Every (NotOvertaken (packetOf w i)) before
+  pub in-turn : inTurnOf w i ≡ true → Every (NotOvertaken (packetOf w i)) (before w i)
   unfolding inTurnOf
   in-turn t =
       let z = packetOf w i in
-      let n : length before ≡ i = length-take-le i (packetsOf w) (omega (arith, length-packets w)) in
-      every-index z before
+      let n : length (before w i) ≡ i = length-take-le i (packetsOf w) (omega (arith, length-packets w)) in
+      every-index z (before w i)
       (λ j l.
       subst (NotOvertaken z) (sym (getD-take i (packetsOf w) j z (omega (arith, n)) ∙ packets-at w j z (omega (arith, n)))) (not-before j (omega (arith, n))))
     where
@@ -70,22 +75,18 @@ module _ (w : List ℕ) (i : ℕ) (v : Inv w) (h : i < countOf w) where
             let p = packetOf w i in
             let q = packetOf w j in
             clash (sameLane q p)
-            (same-lane q p (sym c) d (packet-at w j v (omega arith) .way ∙ join-down (q .kind) b) (packet-at w i v h .way ∙ leave-down (p .kind) a))
+            (same-lane q p (sym c) d (packet-at w j o (omega arith) .way ∙ join-down (q .kind) b) (packet-at w i o h .way ∙ leave-down (p .kind) a))
             (not-true (sameLane q p) (all-at i (λ j. not (sameLane (packetOf w j) (packetOf w i))) j t l));
       }
 
-  -- what holds of every packet in flight holds of the others
-  pub each-other : (P : Packet → Type 0) → Every P (packetsOf w) → Every P rest
-  each-other P f = every-without before (packetOf w i) behind (subst (Every P) parted f)
-
-  pub rest-ok : Every (PacketOk w) rest
-  rest-ok = each-other (PacketOk w) (v .packets)
+  pub rest-ok : Every (PacketOk w) (rest w i)
+  rest-ok = each-other w i h (PacketOk w) (o .packets)
 
   pub fewer : countOf (removed w i) ≡ countOf w - 1
-  fewer = count-removed w i (v .fits .long)
+  fewer = count-removed w i (o .fits .long)
 
   pub fits-left : Fits (removed w i)
-  fits-left = fits-removed w i h (v .fits)
+  fits-left = fits-removed w i h (o .fits)
 
   pub lines-left : SameLines w (removed w i)
-  lines-left = lines-removed w i (v .fits .long)
+  lines-left = lines-removed w i (o .fits .long)

@@ -18,7 +18,7 @@ use Rattle.table.specs.Words.{countOf, hopsOf, packetOf, removed, sourceOf}
 use Rattle.tasks.specs.declared.Onward.{Onward}
 use Rattle.tasks.specs.declared.Packet.{Packet}
 use Rattle.tasks.specs.Packets.{goesDown}
-use Rattle.reachable.specs.Invariant.{Every, Inv, PacketOk}
+use Rattle.reachable.specs.Invariant.{Every, PacketOk, Safe}
 use Rattle.reachable.proofs.Deliveries.{fewer, fits-left, lines-left, packet-at, rest, taken-out}
 use Rattle.reachable.proofs.Lines.{lines-trans}
 use Rattle.reachable.proofs.LinkSteps.{LinkAfter, at-link-either, linkDoes}
@@ -48,7 +48,7 @@ abbrev pub EndAfter : List ℕ → Packet → List Packet → List ℕ → Type 
 EndAfter w p others v = Sent w others (sentByEnd p) v
 
 -- packet p stands at place j
-module _ (w : List ℕ) (j : ℕ) (i : Inv w) (h : j < countOf w) where
+module _ (w : List ℕ) (j : ℕ) (i : Safe w) (h : j < countOf w) where
   abbrev p : Packet
   p = packetOf w j
 
@@ -72,14 +72,14 @@ module _ (w : List ℕ) (j : ℕ) (i : Inv w) (h : j < countOf w) where
   pub source-sent-ok : Every (PacketOk w) (sentBySource w p)
   source-sent-ok = onward-ok w s 0 downKind (d .on) (source-did .on) ls (ok .known) (λ t. omega arith) (omega arith)
 
-  at-source-either : (P : List ℕ → Type 0) → P w → ((v : List ℕ) → SourceAfter w p (rest w j i h) v → P v) → P (atSourceOf w j p .words)
+  at-source-either : (P : List ℕ → Type 0) → P w → ((v : List ℕ) → SourceAfter w p (rest w j) v → P v) → P (atSourceOf w j p .words)
   unfolding atSourceOf
   at-source-either P k f =
       unless-many P _ w _ k
       (λ (n : countOf w - 1 + oneIf (d .on) ≤ 256).
       subst P (sym (sends-on _ s 0 (d .on)))
       (f _
-      (source-written w (removed w j) (lines-left w j i h) (fits-left w j i h) s ls (d .source) (source-did .within) (rest w j i h) (sentBySource w p)
+      (source-written w (removed w j) (lines-left w j i h) (fits-left w j i h) s ls (d .source) (source-did .within) (rest w j) (sentBySource w p)
       (taken-out w j i h) source-sent-ok (omega (arith, n, fewer w j i h, length-onward s 0 (d .on))))))
 
   -- AT ITS DESTINATION --------------------------------------------------------------------------------------------------
@@ -100,7 +100,7 @@ module _ (w : List ℕ) (j : ℕ) (i : Inv w) (h : j < countOf w) where
         onward-ok w s (p .hop) upKind o (destination-done (p .kind) (ok .within .kind)) ls (ok .known)
         (λ t. absurd (clash (goesDown upKind) t refl)) last-hop
 
-    at-destination-either : (P : List ℕ → Type 0) → P w → ((v : List ℕ) → EndAfter w p (rest w j i h) v → P v) → P (atDestinationOf w j p .words)
+    at-destination-either : (P : List ℕ → Type 0) → P w → ((v : List ℕ) → EndAfter w p (rest w j) v → P v) → P (atDestinationOf w j p .words)
     unfolding atDestinationOf
     at-destination-either P k f =
         unless-many P _ w _ k
@@ -119,15 +119,15 @@ module _ (w : List ℕ) (j : ℕ) (i : Inv w) (h : j < countOf w) where
 -- WHEREVER IT ARRIVES -------------------------------------------------------------------------------------------------
 
 -- what the proof of P is to give for each place where packet p of place j may arrive
-pub record Arrives (P : List ℕ → Type 0) (w : List ℕ) (j : ℕ) (i : Inv w) (h : j < countOf w) : Type 0 where
-  pub at-source : packetOf w j .hop ≡ 0 → (v : List ℕ) → SourceAfter w (packetOf w j) (rest w j i h) v → P v
-  pub at-destination : hopsOf w (packetOf w j .session) < packetOf w j .hop → (v : List ℕ) → EndAfter w (packetOf w j) (rest w j i h) v → P v
+pub record Arrives (P : List ℕ → Type 0) (w : List ℕ) (j : ℕ) : Type 0 where
+  pub at-source : packetOf w j .hop ≡ 0 → (v : List ℕ) → SourceAfter w (packetOf w j) (rest w j) v → P v
+  pub at-destination : hopsOf w (packetOf w j .session) < packetOf w j .hop → (v : List ℕ) → EndAfter w (packetOf w j) (rest w j) v → P v
   pub at-link : 0 < packetOf w j .hop → packetOf w j .hop ≤ hopsOf w (packetOf w j .session) → (v : List ℕ)
       → linkDoes w (packetOf w j) .fine ≡ true
-      → LinkAfter w (packetOf w j) (rest w j i h) v
+      → LinkAfter w (packetOf w j) (rest w j) v
       → P v
 
-pub deliver-either : (P : List ℕ → Type 0) (w : List ℕ) (j : ℕ) (i : Inv w) → P w → ((h : j < countOf w) → inTurnOf w j ≡ true → Arrives P w j i h)
+pub deliver-either : (P : List ℕ → Type 0) (w : List ℕ) (j : ℕ) → Safe w → P w → (j < countOf w → inTurnOf w j ≡ true → Arrives P w j)
     → P (deliverOf w j .words)
 unfolding deliverOf arriveOf
 deliver-either P w j i k f =
@@ -139,7 +139,7 @@ deliver-either P w j i k f =
     positive zero f = absurd (f refl)
     positive (suc n) f = omega arith
 
-    arrive : (h : j < countOf w) → Arrives P w j i h → P (arriveOf w j (packetOf w j) .words)
+    arrive : j < countOf w → Arrives P w j → P (arriveOf w j (packetOf w j) .words)
     arrive h g =
         let p = packetOf w j in
         let n = hopsOf w (p .session) in

@@ -1,32 +1,22 @@
--- Every record keeps the invariant, and with it the law of probe cycles, whether it is taken or refused; so does every run, and every table that is
--- reached has both.
+-- Every record keeps the invariant, and with it the law of probe cycles, whether it is taken or refused; so every table that is reached has both.
 -- Assumes nothing.
 use mathlib.Core.List.{List}
 use Prim.Native.Nat.{ℕ}
-use lib.Dec.{ltb}
-use lib.ListN.{length}
 use Rattle.events.specs.Events.{eventOf}
-use Rattle.fractions.proofs.Cases.{cases}
-use Rattle.handed.specs.Handed.{passes14Of}
-use Rattle.machine.specs.Machine.{acting, judging, machineOf, runOf}
-use Rattle.records.specs.declared.Call.the-variants as call
 use Rattle.records.specs.declared.Record.{Record}
 use Rattle.records.specs.declared.Record.the-variants as rec
 use Rattle.records.specs.Format.{RecordOk}
-use Rattle.records.specs.Limits.{inputLimit}
-use Rattle.records.specs.Run as records
-use Rattle.records.proofs.KeepsRanges.{run-keeps}
-use Rattle.records.proofs.ReadRecords.{Bytes}
-use Rattle.table.specs.Words.{emptyWords}
 use Rattle.reachable.specs.Cycle.{Cycle}
 use Rattle.reachable.specs.Invariant.{Inv}
-use Rattle.reachable.specs.Reachable.{Reachable, empty, ran}
+use Rattle.reachable.specs.Reachable.{Reachable}
 use Rattle.reachable.proofs.AtEnds.{deliver-kept}
 use Rattle.reachable.proofs.CyclesAtEnds.{deliver-cycle}
 use Rattle.reachable.proofs.CyclesOfRecords.{change-cycle, declare-cycle, empty-cycle, join-cycle, leave-cycle}
-use Rattle.reachable.proofs.Declares.{declare-kept, empty-inv}
+use Rattle.reachable.proofs.Declares.{declare-kept}
+use Rattle.reachable.proofs.EveryRun.{reachable-kept}
 use Rattle.reachable.proofs.Joins.{join-kept}
 use Rattle.reachable.proofs.LeavesAndChanges.{change-kept, leave-kept}
+use Rattle.reachable.proofs.PassesSafe.{empty-inv}
 
 pub event-kept : (s w : List ℕ) (x : Record) → RecordOk s x → Inv w → Inv (eventOf s w x .words)
 unfolding eventOf
@@ -38,28 +28,11 @@ event-kept s w (rec.Deliver position) k i = deliver-kept w position i
 
 pub event-cycle : (s w : List ℕ) (x : Record) → RecordOk s x → Inv w → Cycle w → Cycle (eventOf s w x .words)
 unfolding eventOf
-event-cycle s w (rec.Link e capacity) k i c = declare-cycle w e capacity (k .0) (k .2) i c
+event-cycle s w (rec.Link e capacity) k i c = declare-cycle w e capacity (k .0) (k .2) (i .safe) c
 event-cycle s w (rec.Session t access maximum n at) k i c = join-cycle s w t access maximum n at (k .0) (k .1) (k .2) (k .3) (k .4) (k .5) i c
 event-cycle s w (rec.Leave t) k i c = leave-cycle w t k i c
 event-cycle s w (rec.Change t maximum) k i c = change-cycle w t maximum (k .0) (k .1) i c
 event-cycle s w (rec.Deliver position) k i c = deliver-cycle w position i c
-
--- what every record keeps, every run keeps, and where the empty table has it every table that is reached has it
-module _ (P : List ℕ → Type 0) (keeps : (s w : List ℕ) (x : Record) → RecordOk s x → P w → P (eventOf s w x .words)) where
-  run-kept : (w s : List ℕ) → Bytes s → P w → P (runOf w s .state)
-  unfolding runOf
-  run-kept w s bytes i = run-keeps P call.Machine (judging s) (acting s) s bytes (λ z x o k. keeps s z x k o) (length s) w 0 0 i
-
-  machine-kept : (w s : List ℕ) → Bytes s → P w → P (machineOf w s .state)
-  unfolding machineOf
-  machine-kept w s bytes i =
-      cases (λ (r : records.Ran (List ℕ)). P (r .state)) (passes14Of w) _ _
-      (λ e. cases (λ (r : records.Ran (List ℕ)). P (r .state)) (ltb inputLimit (length s)) _ _ (λ f. i) (λ f. run-kept w s bytes i))
-      (λ e. i)
-
-  reachable-kept : P emptyWords → (w : List ℕ) → Reachable w → P w
-  reachable-kept i w empty = i
-  reachable-kept i w (ran {w = b} r s bytes) = machine-kept b s bytes (reachable-kept i b r)
 
 pub reachable-inv : (w : List ℕ) → Reachable w → Inv w
 reachable-inv w r = reachable-kept Inv event-kept empty-inv w r

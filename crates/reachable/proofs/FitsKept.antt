@@ -12,9 +12,7 @@ use Rattle.events.specs.Events.{newLink}
 use Rattle.fractions.proofs.Cases.{and-both, last, order}
 use Rattle.links.specs.declared.Link.{Link}
 use Rattle.links.specs.declared.Place.{Place}
-use Rattle.links.specs.Links.{F, R}
-use Rattle.sessions.proofs.Members.{has-zero}
-use Rattle.sessions.specs.Set.{has}
+use Rattle.soundness.proofs.Holding.{nobody-held}
 use Rattle.soundness.specs.Sound.{Held, Sound}
 use Rattle.table.specs.Ranges.{flagsFit, numbersFit, pathFits, ratesFit, sourceFits, standingFits}
 use Rattle.table.specs.Values.{LinkInRange, PacketWithin, PlaceInRange, SourceWithin}
@@ -99,14 +97,6 @@ fits-place w e p l s f =
     })
     f
 
--- a link whose R and F are empty holds no entry
-none-held : (p : Place) (s : ℕ) → R p ≡ 0 → F p ≡ 0 → Held p s → ⊥
-none-held p s a b h =
-    let z : 0 < has s (R p) + has s (F p) = h .some in
-    let x : has s (R p) ≡ 0 = rw a (has-zero s) in
-    let y : has s (F p) ≡ 0 = rw b (has-zero s) in
-    omega arith
-
 pub fits-link : (w : List ℕ) (e c : ℕ) → e < 64 → c ≤ 1000000 → Fits w → Fits (putLink w e (newLink c))
 fits-link w e c l m f =
     let v : List ℕ = putLink w e (newLink c) in
@@ -122,7 +112,7 @@ fits-link w e c l m f =
     (λ i a d. put-link-off w e (newLink c) i a)
     (record {
       link = link-fits-back w e (newLink c) (omega arith) g;
-      entries = λ s k h. absurd (none-held (placeOf v e) s (ap (λ (x : Link). x .r) b) (ap (λ (x : Link). x .f) b) h);
+      entries = λ s k h. absurd (nobody-held (placeOf v e) (ap (λ (x : Link). x .r) b) (ap (λ (x : Link). x .f) b) s h);
     })
     f
 

@@ -1,16 +1,16 @@
 -- The list of packets: what a delivery, and what is sent, do to the Leaves that follow Joins.
 -- Assumes nothing.
-use mathlib.Core.Bool.{Bool, false, true}
+use mathlib.Core.Bool.{Bool, true}
 use mathlib.Core.List.{List, [], _∷_, _++_}
 use mathlib.Core.Logic.{_⊎_, inl, inr}
-use mathlib.Core.Path.{_≡_, refl, subst, sym}
+use mathlib.Core.Path.{_≡_, refl, subst, sym, _∙_}
 use Prim.Native.Nat.{ℕ, _-_, _<_, _≤_}
 use native.Mathlib.Omega.{arith}
 use Rattle.fractions.proofs.Cases.{order}
 use Rattle.soundness.specs.LinkDid.{isJoin}
 use Rattle.tasks.specs.declared.Packet.{Packet}
 use Rattle.tasks.specs.Packets.{isLeave}
-use Rattle.reachable.specs.Invariant.{AllFollowed, Every, LeaveFor, Reaches, Some, also, end, here, later, next, none}
+use Rattle.reachable.specs.Invariant.{AllFollowed, Every, LeaveFor, Reaches, also, end, here, later, next, none}
 use Rattle.reachable.proofs.PacketLists.{no-packet, some-first, some-left, some-map, some-right, some-split}
 
 -- hops 1 to the last of the session's path
@@ -20,6 +20,11 @@ pub record JoinOnPath (last : ℕ → ℕ) (q : Packet) : Type 0 where
 -- a Leave p is not delivered while a Join q of its session stands before it at its hop
 pub record NotOvertaken (p q : Packet) : Type 0 where
   pub apart : isLeave (p .kind) ≡ true → isJoin (q .kind) ≡ true → p .session ≡ q .session → q .hop ≡ p .hop → ⊥
+
+-- who is active counts of the sessions of the list alone
+pub followed-same : (f g : ℕ → Bool) (b l : List Packet) → Every (λ q. g (q .session) ≡ f (q .session)) l → AllFollowed f b l → AllFollowed g b l
+followed-same f g b [] none end = end
+followed-same f g b (q ∷ l) (also e h) (next k c) = next (λ j n. k j (sym e ∙ n)) (followed-same f g (q ∷ b) l h c)
 
 -- a Leave that reaches a hop reaches the later ones
 leave-later : (s h k : ℕ) → h ≤ k → (q : Packet) → LeaveFor s h q → LeaveFor s k q

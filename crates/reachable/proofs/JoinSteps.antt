@@ -33,7 +33,7 @@ use Rattle.table.proofs.Unchanged.{count-after-hops, count-after-path, count-af
 use Rattle.tasks.specs.declared.Eta.the-variants as eta
 use Rattle.tasks.specs.declared.Kind.the-variants as kind
 use Rattle.tasks.specs.declared.Packet.{Packet}
-use Rattle.reachable.specs.Invariant.{Every, Fits, Inv, PacketOk, SourceOk, activeIn, also, none}
+use Rattle.reachable.specs.Invariant.{Every, Fits, Inv, PacketOk, Safe, SourceOk, activeIn, also, none}
 use Rattle.reachable.proofs.FitsKept.{fits-join}
 use Rattle.reachable.proofs.PacketLists.{every-index, every-map, none-some}
 use Rattle.reachable.proofs.Sends.{Sent, all-sent, appendedAll}
@@ -91,10 +91,10 @@ none-of w s h =
 abbrev pub theJoin : ℕ → Rate → Packet
 theJoin s x = sentFrom s 0 (kind.Join x eta.Own)
 
--- v is the table w after session s joined, which had no packet and no entry left
+-- v is the table w after session s joined, which was not active and had no packet left
 pub record Joined (w : List ℕ) (s : ℕ) (x : Rate) (v : List ℕ) : Type 0 where
+  pub left : activeIn w s ≡ false
   pub no-packet : Every (λ q. q .session ≡ s → ⊥) (packetsOf w)
-  pub no-entry : (e : ℕ) → e < 64 → Held (placeOf w e) s → ⊥
   pub fits : Fits v
   pub places : (e : ℕ) → e < 64 → placeOf v e ≡ placeOf w e
   pub active : activeIn v s ≡ true
@@ -105,7 +105,13 @@ pub record Joined (w : List ℕ) (s : ℕ) (x : Rate) (v : List ℕ) : Type 0 wh
   pub packets : packetsOf v ≡ packetsOf w ++ theJoin s x ∷ []
   pub join : PacketOk v (theJoin s x)
 
-module _ (w : List ℕ) (i : Inv w) (s : ℕ) (ls : s < 32) (bytes : List ℕ) (at n : ℕ) (path : Path bytes at n) (whole : at + 8 ≤ length bytes)
+-- where an entry of a session that is not active has a Leave to come, it had no entry left
+pub no-entry-left : (w : List ℕ) (s : ℕ) (x : Rate) (v : List ℕ) → Inv w → Joined w s x v → (e : ℕ) → e < 64 → Held (placeOf w e) s → ⊥
+no-entry-left w s x v i a e l h =
+    none-some (packetsOf w) (every-map (packetsOf w) (λ q m u. m (u .session)) (a .no-packet))
+    (i .entry e s l (a .join .within .session) h .live (a .left))
+
+module _ (w : List ℕ) (i : Safe w) (s : ℕ) (ls : s < 32) (bytes : List ℕ) (at n : ℕ) (path : Path bytes at n) (whole : at + 8 ≤ length bytes)
     (declared : (i : ℕ) → i < n → 0 < linkOf w (getD bytes (at + i) 0) .capacity) (left : activeIn w s ≡ false)
     (none-left : Every (λ q. q .session ≡ s → ⊥) (packetsOf w)) (z : Source) (o : SourceWithin z) (active : z .active ≡ true)
     (waits : isIdle (z .mu) ≡ false) (few : countOf w + 1 ≤ 256) where
@@ -181,11 +187,6 @@ module _ (w : List ℕ) (i : Inv w) (s : ℕ) (ls : s < 32) (bytes : List ℕ) (
       ∙ ap (λ (l : List Packet). l ++ join ∷ [])
       (packets-after-source routed s z ls ∙ packets-after-hops (putPath w s bytes at) s n ls ∙ packets-after-path w s bytes at ls)
 
-  -- the session has no entry yet
-  no-entry : (e : ℕ) → e < 64 → Held (placeOf w e) s → ⊥
-  no-entry e l h =
-      none-some (packetsOf w) (every-map (packetsOf w) (λ q m u. m (u .session)) none-left) (i .entry e s l ls h .live left)
-
   joined-ok : SourceOk v s
   joined-ok = record {
     joined = λ t. omega (arith, joined-hops, path .some);
@@ -200,8 +201,8 @@ module _ (w : List ℕ) (i : Inv w) (s : ℕ) (ls : s < 32) (bytes : List ℕ) (
 
   joined : Joined w s (wholeOf (D z)) v
   joined = record {
+    left = left;
     no-packet = none-left;
-    no-entry = no-entry;
     fits = all .fits;
     places = places;
     active = ap (λ (y : Source). y .active) joined-source ∙ active;
@@ -217,7 +218,7 @@ module _ (w : List ℕ) (i : Inv w) (s : ℕ) (ls : s < 32) (bytes : List ℕ) (
 pub join-either : (P : List ℕ → Type 0) (bytes w : List ℕ) (s access maximum n at : ℕ) → s < 32 → 0 < access → access ≤ 1000000 → maximum ≤ 1000000
     → pathOk bytes at n ≡ true
     → at + 8 ≤ length bytes
-    → Inv w
+    → Safe w
     → P w
     → ((x : Rate) (v : List ℕ) → Joined w s x v → P v)
     → P (joinOf bytes w s access maximum n at .words)

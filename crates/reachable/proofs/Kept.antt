@@ -1,23 +1,26 @@
--- What a table says of a packet, a session and a hop goes by the paths, the capacities and who is active.
+-- What a table says of a packet, a session, an entry and a hop goes by the paths, the capacities, the packets and who is active.
 -- Assumes nothing.
-use mathlib.Core.Bool.{true}
+use mathlib.Core.Bool.{false, true}
 use mathlib.Core.List.{List}
-use mathlib.Core.Logic.{_⊎_, inl, inr}
 use mathlib.Core.Path.{_≡_, ap, refl, subst, sym, _∙_}
 use Prim.Native.Nat.{ℕ, zero, suc, _-_, _<_, _≤_}
+use native.Mathlib.Decide.{ℕ-discrete}
 use native.Mathlib.Omega.{arith}
 use lib.ListN.{getD, length}
 use Rattle.events.specs.Sending.{hopOf}
-use Rattle.fractions.proofs.Cases.{order}
-use Rattle.links.specs.declared.Place.{Place}
-use Rattle.links.specs.Links.{F, R}
-use Rattle.sessions.proofs.Members.{has-high}
-use Rattle.soundness.specs.Sound.{Held, Sound}
-use Rattle.table.specs.Words.{hopFrom, hopsOf, linkOf, pathOf, sourceOf, stopOf}
+use Rattle.table.specs.Words.{hopFrom, hopsOf, linkOf, packetsOf, pathOf, sourceOf, stopOf}
 use Rattle.table.proofs.Hops.{hop-from-first, hop-of-stop}
 use Rattle.table.proofs.InRange.{path-length, path-stop}
 use Rattle.tasks.specs.declared.Packet.{Packet}
-use Rattle.reachable.specs.Invariant.{PacketOk, SourceOk}
+use Rattle.reachable.specs.Invariant.{EntryOk, PacketOk, Reaches, SourceOk, activeIn}
+
+-- what holds at e, and at f where it is another, holds at f
+pub one-or-other : (P : ℕ → Type 0) (e f : ℕ) → P e → ((f ≡ e → ⊥) → P f) → P f
+one-or-other P e f a b = go (ℕ-discrete f e)
+  where
+    go : Dec (f ≡ e) → P f
+    go (yes q) = subst P (sym q) a
+    go (no n) = b n
 
 -- THE SAME PATHS ------------------------------------------------------------------------------------------------------
 
@@ -60,6 +63,14 @@ source-kept w v s same a c o =
       once = λ i j l k q. o .once i j (omega (arith, h)) k (sym (at j (omega (arith, l, k))) ∙ q ∙ at i l);
     }
 
+-- an entry whose session keeps its path, and has a Leave to come where it is not active
+pub entry-kept : (w v : List ℕ) (e s : ℕ) → pathOf v s ≡ pathOf w s → 0 < hopOf w s e
+    → (activeIn v s ≡ false → Reaches s (hopOf w s e) (packetsOf v))
+    → EntryOk v e s
+entry-kept w v e s same on live =
+    let h = hop-same w v s same e in
+    record { on-path = omega (arith, h, on); live = λ a. subst (λ (n : ℕ). Reaches s n (packetsOf v)) (sym h) (live a) }
+
 -- THE LINK AT A HOP ---------------------------------------------------------------------------------------------------
 
 -- no link stands twice on the path, so the link at place i has its hop there
@@ -92,11 +103,3 @@ hop-on w s e h = go (hopOf w s e) refl
 pub same-hop : (w : List ℕ) (s e f : ℕ) → 0 < hopOf w s e → hopOf w s f ≡ hopOf w s e → f ≡ e
 same-hop w s e f h q =
     sym (hop-on w s f (omega (arith, h, q)) .stop) ∙ ap (λ (n : ℕ). stopOf w s (n - 1)) q ∙ hop-on w s e h .stop
-
--- a session that a link holds is one of the 32
-pub held-session : (p : Place) (s : ℕ) → Sound p → Held p s → s < 32
-held-session p s z h = go (order 32 s)
-  where
-    go : (32 ≤ s) ⊎ (s < 32) → s < 32
-    go (inl b) = absurd (omega (arith, h .some, has-high 32 s (R p) (z .r32) b, has-high 32 s (F p) (z .f32) b))
-    go (inr l) = l

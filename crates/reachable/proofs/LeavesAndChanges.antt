@@ -12,16 +12,18 @@ use Rattle.ends.specs.Figure3.{changingOf, leavingOf}
 use Rattle.events.specs.Events.{changeOf, leaveOf}
 use Rattle.records.proofs.Somes.{clash}
 use Rattle.soundness.specs.LinkDid.{isJoin}
-use Rattle.table.specs.Words.{hopsOf, packetsOf, sourceOf}
+use Rattle.table.specs.Words.{packetsOf, sourceOf}
 use Rattle.tasks.specs.declared.Kind.the-variants as kind
 use Rattle.tasks.specs.declared.Packet.{Packet}
 use Rattle.reachable.specs.Invariant.{AllFollowed, Every, Inv, PacketOk, Reaches, activeIn, also, end, here, next, none}
 use Rattle.reachable.proofs.Follows.{followed-behind}
+use Rattle.reachable.proofs.Kept.{one-or-other}
 use Rattle.reachable.proofs.LinesFrame.{inv-packets, inv-sources}
-use Rattle.reachable.proofs.PacketLists.{every-append, every-map, some-left, some-right}
+use Rattle.reachable.proofs.PacketLists.{every-map, some-left, some-right}
+use Rattle.reachable.proofs.SafeRecords.{changing-safe, leaving-safe}
 use Rattle.reachable.proofs.Sends.{onwardTo}
 use Rattle.reachable.proofs.SentPackets.{join-on-path, lastOf, onward-followed}
-use Rattle.reachable.proofs.SessionSteps.{SessionAfter, change-either, changed-ok, leave-either, leave-ok, theLeave}
+use Rattle.reachable.proofs.SessionSteps.{SessionAfter, change-either, leave-either, theLeave}
 use Rattle.reachable.proofs.SourceRules.{SourceDone, downKind}
 use Rattle.reachable.proofs.SourceWrites.{active-same}
 
@@ -71,42 +73,30 @@ module _ (w : List ℕ) (s : ℕ) (ls : s < 32) (i : Inv w) (active : activeIn w
   leaving-kept : SessionAfter w s (leavingOf (sourceOf w s)) v → Inv v
   unfolding leavingOf
   leaving-kept a =
-      inv-sources w v i (a .fits) (a .places) (a .paths)
-      (subst (Every (PacketOk w)) (sym (a .packets)) (every-append (packetsOf w) sent (i .packets) (leave-ok w s i ls active)))
-      (λ r l t. joined r l (ℕ-discrete r s) t)
-      (λ r h l p m live t. subst (Reaches r h) (sym (a .packets)) (reaches r h l p (ℕ-discrete r s) live t))
-      (subst (AllFollowed (activeIn v) []) (sym (a .packets)) (followed-leave (activeIn w) (activeIn v) s w [] (packetsOf w) other (i .packets) (i .joins)))
+      inv-sources w v i (leaving-safe w s ls (i .safe) active v a) (a .places) (a .paths)
+      (λ r h l p m live t. subst (Reaches r h) (sym (a .packets)) (reaches r h l p live t))
+      (subst (AllFollowed (activeIn v) []) (sym (a .packets)) (followed-leave (activeIn w) (activeIn v) s w [] (packetsOf w) other (i .safe .packets) (i .joins)))
     where
       other : (r : ℕ) → r < 32 → (r ≡ s → ⊥) → activeIn v r ≡ activeIn w r
       other r l n = ap (λ (y : Source). y .active) (a .others r l n)
 
-      left : activeIn v s ≡ false
-      left = ap (λ (y : Source). y .active) (a .source)
-
-      joined : (r : ℕ) → r < 32 → Dec (r ≡ s) → activeIn v r ≡ true → 0 < hopsOf w r
-      joined r l (yes q) t = absurd (clash (activeIn v s) (ap (activeIn v) (sym q) ∙ t) left)
-      joined r l (no n) t = i .source r l .joined (sym (other r l n) ∙ t)
-
-      reaches : (r h : ℕ) → r < 32 → 0 < h → Dec (r ≡ s) → (activeIn w r ≡ false → Reaches r h (packetsOf w)) → activeIn v r ≡ false
-          → Reaches r h (packetsOf w ++ sent)
-      reaches r h l p (yes q) live t =
-          some-right (packetsOf w) sent (subst (λ (x : ℕ). Reaches x h sent) (sym q) (leave-here s h p))
-      reaches r h l p (no n) live t = some-left (packetsOf w) sent (live (sym (other r l n) ∙ t))
+      reaches : (r h : ℕ) → r < 32 → 0 < h → (activeIn w r ≡ false → Reaches r h (packetsOf w)) → activeIn v r ≡ false → Reaches r h (packetsOf w ++ sent)
+      reaches r h l p live t =
+          one-or-other (λ (x : ℕ). Reaches x h (packetsOf w ++ sent)) s r (some-right (packetsOf w) sent (leave-here s h p))
+          (λ n. some-left (packetsOf w) sent (live (sym (other r l n) ∙ t)))
 
   changing-kept : (m : ℕ) → SourceDone (sourceOf w s) (changingOf (sourceOf w s) m) → SessionAfter w s (changingOf (sourceOf w s) m) v → Inv v
   changing-kept m done a =
       let d = changingOf (sourceOf w s) m in
       let l = onwardTo s 0 (d .on) in
-      inv-packets w v i (a .fits) (a .places) (a .paths)
-      (subst (Every (PacketOk w)) (sym (a .packets)) (every-append (packetsOf w) l (i .packets) (changed-ok w s i ls active d done)))
-      (active-same a (done .active))
+      inv-packets w v i (changing-safe w s ls (i .safe) active v m done a) (a .places) (a .paths) (active-same a (done .active))
       (λ r h n m x. subst (Reaches r h) (sym (a .packets)) (some-left (packetsOf w) l x))
       (subst (AllFollowed (activeIn w) []) (sym (a .packets))
-      (followed-append (activeIn w) w (packetsOf w) l (i .packets) (i .joins)
+      (followed-append (activeIn w) w (packetsOf w) l (i .safe .packets) (i .joins)
       (λ c f. onward-followed (activeIn w) s 0 downKind (d .on) c (done .on) (λ t b. absurd (clash (isJoin downKind) t refl)))))
 
 pub leave-kept : (w : List ℕ) (s : ℕ) → s < 32 → Inv w → Inv (leaveOf w s .words)
-leave-kept w s ls i = leave-either Inv w s ls i i (λ active v a. leaving-kept w s ls i active v a)
+leave-kept w s ls i = leave-either Inv w s ls (i .safe) i (λ active v a. leaving-kept w s ls i active v a)
 
 pub change-kept : (w : List ℕ) (s m : ℕ) → s < 32 → m ≤ 1000000 → Inv w → Inv (changeOf w s m .words)
-change-kept w s m ls lm i = change-either Inv w s ls i i m lm (λ active v done a. changing-kept w s ls i active v m done a)
+change-kept w s m ls lm i = change-either Inv w s ls (i .safe) i m lm (λ active v done a. changing-kept w s ls i active v m done a)

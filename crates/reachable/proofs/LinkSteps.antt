@@ -23,7 +23,7 @@ use Rattle.tasks.specs.declared.Did.{Did}
 use Rattle.tasks.specs.declared.Packet.{Packet}
 use Rattle.tasks.specs.Figure2.{linkStepOf}
 use Rattle.tasks.specs.Packets.{goesDown}
-use Rattle.reachable.specs.Invariant.{Every, Fits, Inv, PacketOk}
+use Rattle.reachable.specs.Invariant.{Every, Fits, PacketOk, Safe}
 use Rattle.reachable.proofs.BurstSets.{members-sessions, on-path-count, on-path-crosses}
 use Rattle.reachable.proofs.Deliveries.{fewer, fits-left, lines-left, packet-at, rest, taken-out}
 use Rattle.reachable.proofs.FitsKept.{fits-place, sound-in-range}
@@ -65,7 +65,7 @@ pub record LinkAfter (w : List ℕ) (p : Packet) (others : List Packet) (v : Lis
   pub packets : packetsOf v ≡ others ++ sentByLink w p
 
 -- packet p at place j reaches the link of its hop
-module _ (w : List ℕ) (j : ℕ) (i : Inv w) (h : j < countOf w)
+module _ (w : List ℕ) (j : ℕ) (i : Safe w) (h : j < countOf w)
     (low : 0 < packetOf w j .hop) (high : packetOf w j .hop ≤ hopsOf w (packetOf w j .session)) where
   abbrev p : Packet
   p = packetOf w j
@@ -117,8 +117,8 @@ module _ (w : List ℕ) (j : ℕ) (i : Inv w) (h : j < countOf w)
       ∙ ap (λ (l : List Packet). appendedAll written (l ++ onwardTo s (p .hop) (d .on)))
       (burst-same w written e k to (members-sessions _) path-written)
 
-  sent-ok : Every (PacketOk w) sent
-  sent-ok =
+  pub link-sent-ok : Every (PacketOk w) sent
+  link-sent-ok =
       every-append (burstTo w e (burstKind (d .burst)) to) _
       (burst-ok w e (burstKind (d .burst)) to (burst-up (d .burst)) (burst-within (d .burst)) (on-path-crosses w e (d .to)))
       (onward-ok w s (p .hop) (p .kind) (d .on) (link-did .on) (ok .within .session) (ok .known) (λ t. high) (omega arith))
@@ -130,9 +130,9 @@ module _ (w : List ℕ) (j : ℕ) (i : Inv w) (h : j < countOf w)
       length-append (burstTo w e (burstKind (d .burst)) to) (onwardTo s (p .hop) (d .on))
       ∙ ap₂ _+_ (length-burst w e (burstKind (d .burst)) to ∙ on-path-count w e (d .to)) (length-onward s (p .hop) (d .on)) in
       all-sent written sent (fits-place (removed w j) e (d .place) link-below (link-did .sound) (fits-left w j i h)) (omega (arith, c, k))
-      (every-map sent (λ q o. o .within) sent-ok)
+      (every-map sent (λ q o. o .within) link-sent-ok)
 
-  link-after : countOf w - 1 + sizeOf (onPathOf w e (d .to)) + oneIf (d .on) ≤ 256 → LinkAfter w p (rest w j i h) (appendedAll written sent)
+  link-after : countOf w - 1 + sizeOf (onPathOf w e (d .to)) + oneIf (d .on) ≤ 256 → LinkAfter w p (rest w j) (appendedAll written sent)
   link-after n =
       let a = sent-all n in
       let r = lines-left w j i h in
@@ -148,7 +148,7 @@ module _ (w : List ℕ) (j : ℕ) (i : Inv w) (h : j < countOf w)
       }
 
   -- what holds of the table before it, and of the table after it where it is taken, holds after it
-  pub at-link-either : (P : List ℕ → Type 0) → P w → ((v : List ℕ) → d .fine ≡ true → LinkAfter w p (rest w j i h) v → P v)
+  pub at-link-either : (P : List ℕ → Type 0) → P w → ((v : List ℕ) → d .fine ≡ true → LinkAfter w p (rest w j) v → P v)
       → P (atLinkOf w j p e .words)
   unfolding atLinkOf
   at-link-either P o f =

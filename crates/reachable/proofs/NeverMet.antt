@@ -30,7 +30,7 @@ pub join-not-held : (w : List ℕ) → Reachable w → (i : ℕ) → i < countOf
     → packetOf w i .hop ≤ hopsOf w (packetOf w i .session)
     → holds (placeOf w (stopOf w (packetOf w i .session) (packetOf w i .hop - 1))) (packetOf w i .session) ≡ false
 join-not-held w r i l t high =
-    let v = reachable-inv w r in
+    let v = reachable-inv w r .safe in
     let p = packetOf w i in
     let e = linkAt w p in
     let low = packet-at w i v l .down (join-down (p .kind) t) .0 in
@@ -49,7 +49,7 @@ pub response-awaited : (w : List ℕ) → Reachable w → (i : ℕ) → i < coun
     → holds (placeOf w (stopOf w (packetOf w i .session) (packetOf w i .hop - 1))) (packetOf w i .session) ≡ true
     → Waiting (placeOf w (stopOf w (packetOf w i .session) (packetOf w i .hop - 1))) (packetOf w i .session)
 response-awaited w r i l t low h =
-    let v = reachable-inv w r in
+    let v = reachable-inv w r .safe in
     let p = packetOf w i in
     let e = linkAt w p in
     let up = response-up (p .kind) t in

@@ -43,9 +43,6 @@ module _ {P : Packet → Type 0} where
   every-right [] ys v = v
   every-right (x ∷ xs) ys (also p u) = every-right xs ys u
 
-  pub every-first : {x : Packet} {xs : List Packet} → Every P (x ∷ xs) → P x
-  every-first (also p u) = p
-
   pub every-rest : {x : Packet} {xs : List Packet} → Every P (x ∷ xs) → Every P xs
   every-rest (also p u) = u
 
@@ -73,6 +70,11 @@ module _ {P : Packet → Type 0} (z : Packet) where
   every-at [] j l none = absurd (omega arith)
   every-at (x ∷ xs) zero l (also p u) = p
   every-at (x ∷ xs) (suc j) l (also p u) = every-at xs j (omega arith) u
+
+  pub some-index : (xs : List Packet) (j : ℕ) → j < length xs → P (getD xs j z) → Some P xs
+  some-index [] j l p = absurd (omega arith)
+  some-index (x ∷ xs) zero l p = here p
+  some-index (x ∷ xs) (suc j) l p = later (some-index xs j (omega arith) p)
 
   pub some-at : (xs : List Packet) → Some P xs → (j : ℕ) × (j < length xs) × P (getD xs j z)
   some-at (x ∷ xs) (here p) = (0, omega arith, p)

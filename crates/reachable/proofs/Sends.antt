@@ -1,7 +1,7 @@
 -- What a step sends, as a list of packets, and the table after it.
 -- Assumes nothing.
-use mathlib.Core.List.{List, [], _∷_, _++_}
-use mathlib.Core.Path.{_≡_, ap, ap₂, refl, _∙_}
+use mathlib.Core.List.{List, [], _∷_, _++_, append-assoc, append-nil}
+use mathlib.Core.Path.{_≡_, ap, ap₂, refl, sym, _∙_}
 use Prim.Native.Nat.{ℕ, suc, _+_, _<_, _≤_}
 use native.Mathlib.Omega.{arith}
 use lib.ListN.{length}
@@ -88,17 +88,9 @@ pub record Sent (u : List ℕ) (rest xs : List Packet) (v : List ℕ) : Type 0 w
   pub packets : packetsOf v ≡ rest ++ xs
   pub fits : Fits v
 
-append-one : (l : List Packet) (x : Packet) (xs : List Packet) → (l ++ (x ∷ [])) ++ xs ≡ l ++ (x ∷ xs)
-append-one [] x xs = refl
-append-one (y ∷ l) x xs = ap (λ (m : List Packet). y ∷ m) (append-one l x xs)
-
-pub append-nothing : (l : List Packet) → l ≡ l ++ []
-append-nothing [] = refl
-append-nothing (y ∷ l) = ap (λ (m : List Packet). y ∷ m) (append-nothing l)
-
 pub all-sent : (u : List ℕ) (xs : List Packet) → Fits u → countOf u + length xs ≤ 256 → Every PacketWithin xs → Sent u (packetsOf u) xs (appendedAll u xs)
 unfolding appendedAll
-all-sent u [] f n none = record { lines = lines-refl u; packets = append-nothing (packetsOf u); fits = f }
+all-sent u [] f n none = record { lines = lines-refl u; packets = sym (append-nil (packetsOf u)); fits = f }
 all-sent u (x ∷ xs) f n (also o e) =
     let c : countOf u < 256 = omega arith in
     let a : countOf (appended u x) ≡ countOf u + 1 = count-appended u x (f .long) c in
@@ -107,6 +99,6 @@ all-sent u (x ∷ xs) f n (also o e) =
       lines = lines-trans (lines-appended u x (f .long)) (r .lines);
       packets = r .packets
           ∙ ap (λ (l : List Packet). l ++ xs) (packets-appended u x (f .long) c (packet-within o))
-          ∙ append-one (packetsOf u) x xs;
+          ∙ append-assoc (packetsOf u) (x ∷ []) xs;
       fits = r .fits;
     }

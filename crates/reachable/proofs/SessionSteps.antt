@@ -14,7 +14,7 @@ use Rattle.table.specs.Values.{SourceWithin}
 use Rattle.table.specs.Words.{countOf, hopsOf, packetsOf, putSource, sourceOf}
 use Rattle.tasks.specs.declared.Kind.the-variants as kind
 use Rattle.tasks.specs.declared.Packet.{Packet}
-use Rattle.reachable.specs.Invariant.{Every, Inv, PacketOk, activeIn, also, none}
+use Rattle.reachable.specs.Invariant.{Every, PacketOk, Safe, activeIn, also, none}
 use Rattle.reachable.proofs.Lines.{lines-refl}
 use Rattle.reachable.proofs.Sends.{length-onward, onwardTo, sends-on}
 use Rattle.reachable.proofs.SentPackets.{onward-ok, sent-ok}
@@ -31,7 +31,7 @@ abbrev pub theLeave : ℕ → Packet
 theLeave s = sentFrom s 0 kind.Leave
 
 -- what an active session sends is in range and on its path
-module _ (w : List ℕ) (s : ℕ) (i : Inv w) (ls : s < 32) (active : activeIn w s ≡ true) where
+module _ (w : List ℕ) (s : ℕ) (i : Safe w) (ls : s < 32) (active : activeIn w s ≡ true) where
   known : 0 < hopsOf w s
   known = i .source s ls .joined active
 
@@ -44,7 +44,7 @@ module _ (w : List ℕ) (s : ℕ) (i : Inv w) (ls : s < 32) (active : activeIn w
   pub changed-ok : (d : SourceDid) → SourceDone (sourceOf w s) d → Every (PacketOk w) (onwardTo s 0 (d .on))
   changed-ok d done = onward-ok w s 0 downKind (d .on) (done .on) ls known (λ t. omega arith) (omega arith)
 
-module _ (P : List ℕ → Type 0) (w : List ℕ) (s : ℕ) (ls : s < 32) (i : Inv w) (k : P w) where
+module _ (P : List ℕ → Type 0) (w : List ℕ) (s : ℕ) (ls : s < 32) (i : Safe w) (k : P w) where
   sends-either : (d : SourceDid) → SourceWithin (d .source) → Every (PacketOk w) (onwardTo s 0 (d .on)) → ((v : List ℕ) → SessionAfter w s d v → P v)
       → P (sourceSends w w s d .words)
   unfolding sourceSends

@@ -1,9 +1,8 @@
 -- A source is written and it sends: what is read of the table after it.
 -- Assumes nothing.
 use mathlib.Core.List.{List, _++_}
-use mathlib.Core.Path.{_≡_, ap, sym, _∙_}
+use mathlib.Core.Path.{_≡_, ap, _∙_}
 use Prim.Native.Nat.{ℕ, _+_, _<_, _≤_}
-use native.Mathlib.Decide.{ℕ-discrete}
 use native.Mathlib.Omega.{arith}
 use lib.ListN.{length}
 use Rattle.ends.specs.declared.Source.{Source}
@@ -13,14 +12,15 @@ use Rattle.table.proofs.FitsMeans.{source-fits-means, source-within}
 use Rattle.table.proofs.ReadBack.{source-back}
 use Rattle.table.proofs.Unchanged.{count-after-source, link-after-source, packets-after-source, path-after-source, row-after-source, source-other}
 use Rattle.tasks.specs.declared.Packet.{Packet}
-use Rattle.reachable.specs.Invariant.{Every, Fits, Inv, PacketOk, activeIn}
+use Rattle.reachable.specs.Invariant.{Every, Fits, PacketOk, Safe, activeIn}
 use Rattle.reachable.proofs.FitsKept.{fits-source}
+use Rattle.reachable.proofs.Kept.{one-or-other}
 use Rattle.reachable.proofs.Lines.{SameLines}
 use Rattle.reachable.proofs.PacketLists.{every-map}
 use Rattle.reachable.proofs.Sends.{Sent, all-sent, appendedAll}
 
 -- what a session that has joined keeps is in range
-pub source-at : (w : List ℕ) (s : ℕ) → Inv w → s < 32 → 0 < hopsOf w s → SourceWithin (sourceOf w s)
+pub source-at : (w : List ℕ) (s : ℕ) → Safe w → s < 32 → 0 < hopsOf w s → SourceWithin (sourceOf w s)
 source-at w s i l h = source-fits-means w s (i .fits .sources s l h)
 
 pub place-after-source : (w : List ℕ) (q : ℕ) (z : Source) (e : ℕ) → q < 32 → e < 64 → placeOf (putSource w q z) e ≡ placeOf w e
@@ -58,8 +58,6 @@ source-written w u lines fits s ls z o rest sent is ok few =
 -- where the source is as active as it was, all are
 pub active-same : {w : List ℕ} {s : ℕ} {z : Source} {rest sent : List Packet} {v : List ℕ} → Written w s z rest sent v → z .active ≡ activeIn w s
     → (r : ℕ) → r < 32 → activeIn v r ≡ activeIn w r
-active-same {w} {s} {z} {rest} {sent} {v} a k r l = go (ℕ-discrete r s)
-  where
-    go : Dec (r ≡ s) → activeIn v r ≡ activeIn w r
-    go (yes q) = ap (activeIn v) q ∙ ap (λ (y : Source). y .active) (a .source) ∙ k ∙ ap (activeIn w) (sym q)
-    go (no n) = ap (λ (y : Source). y .active) (a .others r l n)
+active-same {w} {s} {z} {rest} {sent} {v} a k r l =
+    one-or-other (λ (x : ℕ). activeIn v x ≡ activeIn w x) s r (ap (λ (y : Source). y .active) (a .source) ∙ k)
+    (λ n. ap (λ (y : Source). y .active) (a .others r l n))

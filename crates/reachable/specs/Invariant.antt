@@ -1,6 +1,6 @@
 -- What holds of every table that is reached. It is the test of refusal 14, and one clause more: every Join of a session that is not active has a
 -- Leave of it behind it. The test alone is not kept by every step: where a Join stands behind its session's Leave, an entry is made that no Leave
--- will remove. w are the words of the table.
+-- will remove. What every step keeps from the test alone is `Safe`. w are the words of the table.
 -- Assumes nothing: definitions.
 use mathlib.Core.Bool.{Bool, false, true}
 use mathlib.Core.List.{List, [], _∷_}
@@ -68,13 +68,13 @@ pub record PacketOk (w : List ℕ) (q : Packet) : Type 0 where
 
 -- SESSIONS AND THEIR ENTRIES ------------------------------------------------------------------------------------------
 
--- an active session has a path, over declared links, none twice
+-- an active session has a path, and every path is over declared links, none twice
 pub record SourceOk (w : List ℕ) (s : ℕ) : Type 0 where
   pub joined : sourceOf w s .active ≡ true → 0 < hopsOf w s
   pub declared : (i : ℕ) → i < hopsOf w s → 0 < linkOf w (stopOf w s i) .capacity
   pub once : (i j : ℕ) → i < hopsOf w s → j < i → stopOf w s j ≡ stopOf w s i → ⊥
 
--- an entry of session s at link e
+-- an entry of session s at link e: the link is on the session's path, and a session that is not active has a Leave that is still to reach the link
 pub record EntryOk (w : List ℕ) (e s : ℕ) : Type 0 where
   pub on-path : 0 < hopOf w s e
   pub live : sourceOf w s .active ≡ false → Reaches s (hopOf w s e) (packetsOf w)
@@ -84,11 +84,17 @@ activeIn w s = sourceOf w s .active
 
 -- THE INVARIANT -------------------------------------------------------------------------------------------------------
 
-pub record Inv (w : List ℕ) : Type 0 where
+-- what every record keeps, whatever stands behind a Join: the words in use are in range, each link is sound and within refusal 12, and paths and
+-- packets are in order
+pub record Safe (w : List ℕ) : Type 0 where
   pub fits : Fits w
   pub place : (e : ℕ) → e < 64 → Sound (placeOf w e)
   pub fine : (e : ℕ) → e < 64 → isFine (B (placeOf w e)) ≡ true
   pub source : (s : ℕ) → s < 32 → SourceOk w s
   pub packets : Every (PacketOk w) (packetsOf w)
+
+-- and besides, each entry is as `EntryOk` says, and a Leave follows every Join of a session that is not active
+pub record Inv (w : List ℕ) : Type 0 where
+  pub safe : Safe w
   pub entry : (e s : ℕ) → e < 64 → s < 32 → Held (placeOf w e) s → EntryOk w e s
   pub joins : AllFollowed (activeIn w) [] (packetsOf w)

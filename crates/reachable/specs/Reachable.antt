@@ -5,7 +5,7 @@
 use mathlib.Core.List.{List}
 use Prim.Native.Nat.{ℕ}
 use Rattle.machine.specs.Machine.{machineOf}
-use Rattle.records.proofs.ReadRecords.{Bytes}
+use Rattle.records.specs.Format.{Bytes}
 use Rattle.table.specs.Words.{emptyWords}
 
 pub data Reachable : List ℕ → Type 0 where

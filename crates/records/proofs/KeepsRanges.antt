@@ -8,7 +8,7 @@ use native.Mathlib.Omega.{arith}
 use lib.Dec.{ltb}
 use lib.ListN.{getD, length, replicate, set}
 use Rattle.records.specs.Declaring.{declarationsOf, declareOf, judging, noneDeclared}
-use Rattle.records.specs.Format.{RecordOk, readAt, sizeAt}
+use Rattle.records.specs.Format.{Bytes, RecordOk, readAt, sizeAt}
 use Rattle.records.specs.Limits.{rateLimit}
 use Rattle.records.specs.Run.{Ran, after, judged, runFrom}
 use Rattle.records.specs.declared.Call.{Call}
@@ -19,7 +19,7 @@ use Rattle.records.specs.declared.Read.the-variants as read
 use Rattle.records.specs.declared.Record.{Record}
 use Rattle.records.specs.declared.Record.the-variants as rec
 use Rattle.records.specs.declared.Verdict.{Verdict}
-use Rattle.records.proofs.ReadRecords.{Bytes, judged-record-ok}
+use Rattle.records.proofs.ReadRecords.{judged-record-ok}
 
 -- A RUN ---------------------------------------------------------------------------------------------------------------
 

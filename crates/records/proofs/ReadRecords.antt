@@ -8,7 +8,7 @@ use native.Mathlib.Omega.{arith}
 use borrow.Author.Tests.{eqb-true, leb-true, ltb-true}
 use lib.Dec.{eqb, leb, ltb}
 use lib.ListN.{getD, length}
-use Rattle.records.specs.Format.{RecordOk, be2, be4, bodyAt, bodyOf, changeAt, deliverAt, leaveAt, linkAt, pathOk, rateOk, readAt, sessionAt, sizeAt, takesOf}
+use Rattle.records.specs.Format.{Bytes, RecordOk, be2, be4, bodyAt, bodyOf, changeAt, deliverAt, leaveAt, linkAt, pathOk, rateOk, readAt, sessionAt, sizeAt, takesOf}
 use Rattle.records.specs.Run.{judged, weighed}
 use Rattle.records.specs.declared.Call.{Call}
 use Rattle.records.specs.declared.Read.{Read}
@@ -32,10 +32,6 @@ Ok s (read.Refused r) = 0 ≤ 0
 
 none : 0 ≤ 0
 none = omega arith
-
--- all numbers of an input are bytes
-abbrev pub Bytes : List ℕ → Type 0
-Bytes s = (i : ℕ) → getD s i 0 < 256
 
 link-ok : (s : List ℕ) (at : ℕ) → Ok s (linkAt s at)
 unfolding linkAt

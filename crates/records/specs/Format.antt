@@ -15,6 +15,10 @@ use Rattle.records.specs.declared.Record.{Record}
 use Rattle.records.specs.declared.Record.the-variants as rec
 use Rattle.records.specs.declared.Refusal.the-variants as refusal
 
+-- all numbers of an input are bytes
+abbrev pub Bytes : List ℕ → Type 0
+Bytes s = (i : ℕ) → getD s i 0 < 256
+
 -- two and four bytes, the highest first
 unfoldable pub be2 : List ℕ → ℕ → ℕ
 be2 s at = getD s at 0 * 256 + getD s (at + 1) 0

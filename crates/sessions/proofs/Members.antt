@@ -58,6 +58,12 @@ has-put-other (suc s) zero w n = omega arith
 has-put-other (suc s) (suc t) w n =
     ap (has t) (half (put s (w / 2)) (w % 2) (omega arith)) ∙ has-put-other s t (w / 2) (λ e. n (ap suc e))
 
+-- a new member adds its digit
+pub put-new : (s w : ℕ) → has s w ≡ 0 → put s w ≡ w + 2 ^ s
+unfolding has put
+put-new zero w h = omega arith
+put-new (suc s) w h = omega (arith, put-new s (w / 2) h, pow-suc 2 s)
+
 -- a member put twice
 pub put-put : (s w : ℕ) → put s (put s w) ≡ put s w
 unfolding put

@@ -8,8 +8,8 @@ use native.Mathlib.Nat.{pow-suc, add-zero, zero-add, add-mul}
 use native.Mathlib.Omega.{arith}
 use lib.Count.{ones, ones-step, trailingZeros}
 use lib.ListN.{length}
-use Rattle.sessions.specs.Set.{has, cut, membersFrom, walk}
-use Rattle.sessions.proofs.Members.{cut-lt, digit}
+use Rattle.sessions.specs.Set.{has, cut, membersFrom, put, walk}
+use Rattle.sessions.proofs.Members.{cut-lt, digit, has-high, put-new}
 use Rattle.sessions.proofs.Counts.{ones-pos, ones-zero}
 
 two : (w : ℕ) → (w % 2 ≡ 0) ⊎ (w % 2 ≡ 1)
@@ -102,6 +102,23 @@ members-make (suc k) b w a h =
     halves w b =
         let e : w ≡ w / 2 * 2 + w % 2 = omega arith in
         ap (λ (x : ℕ). x * 2 ^ b) e ∙ (add-mul (w / 2 * 2) (w % 2) (2 ^ b) ∙ omega (arith, ap (λ (x : ℕ). w / 2 * x) (pow-suc 2 b)))
+
+-- members that are put one after the other, each above those before it
+put-each : (k b w a : ℕ) → a < 2 ^ b → walk (λ x s. put s x) a (membersFrom k b w) ≡ walk (λ x s. x + 2 ^ s) a (membersFrom k b w)
+unfolding membersFrom walk
+put-each zero b w a h = refl
+put-each (suc k) b w a h =
+    ⊎-elim
+    (λ e. rw e (put-each k (suc b) (w / 2) a (omega (arith, pow-suc 2 b))))
+    (λ e.
+    let l = membersFrom k (suc b) (w / 2) in
+    rw (members-odd k b w (w / 2) e refl)
+    (subst (λ (n : ℕ). walk (λ x s. put s x) n l ≡ walk (λ x s. x + 2 ^ s) (a + 2 ^ b) l) (sym (put-new b a (has-high b b a h (omega arith))))
+    (put-each k (suc b) (w / 2) (a + 2 ^ b) (omega (arith, pow-suc 2 b)))))
+    (two w)
+
+pub members-put : (k w : ℕ) → w < 2 ^ k → walk (λ x s. put s x) 0 (membersFrom k 0 w) ≡ w
+members-put k w h = put-each k 0 w 0 (omega arith) ∙ members-make k 0 w 0 h ∙ omega arith
 
 -- as many as the count of ones
 pub members-length : (k b w : ℕ) → w < 2 ^ k → length (membersFrom k b w) ≡ ones w

@@ -150,7 +150,7 @@ loop-stops p t = chosen (line5 p) false (checkOf 31 (turnOf p)) p t
 
 -- STAGES --------------------------------------------------------------------------------------------------------------
 
--- the check ends in one of its stages
+-- the check ends in one of its stages, where line 5 no longer holds (`check-done`): what the figure's loop comes to is what the definition gives
 stage-by : (k : ℕ) (p q : Place) → Stage p q → Stage p (checkOf k q)
 unfolding checkOf
 stage-by zero p q g = g

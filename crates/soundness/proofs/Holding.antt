@@ -1,8 +1,8 @@
 -- Whether a link holds a session: the tests as facts, and who is held where a session goes from one word to the other, or is there already.
 -- Assumes nothing.
-use mathlib.Core.Bool.{false, true}
+use mathlib.Core.Bool.{Bool, false, true}
 use mathlib.Core.Logic.{_⊎_, inl, inr}
-use mathlib.Core.Path.{_≡_, sym, _∙_}
+use mathlib.Core.Path.{_≡_, ap, refl, sym, _∙_}
 use Prim.Native.Nat.{ℕ, _+_, _^_, _<_}
 use native.Mathlib.Decide.{ℕ-discrete}
 use native.Mathlib.Omega.{arith}
@@ -11,7 +11,7 @@ use Rattle.fractions.proofs.Cases.{or-either, or-false}
 use Rattle.links.specs.declared.Place.{Place}
 use Rattle.links.specs.Links.{F, R, holds, inF, inR}
 use Rattle.sessions.specs.Set.{cut, has, hasOf, put}
-use Rattle.sessions.proofs.Members.{cut-le, has-cut-other, has-cut-same, has-or-not, has-put-other, has-put-same, put-lt, same-members}
+use Rattle.sessions.proofs.Members.{cut-le, has-cut-other, has-cut-same, has-or-not, has-put-other, has-put-same, has-zero, put-lt, same-members}
 use Rattle.soundness.specs.Sound.{Held}
 
 pub is-in : (w s : ℕ) → hasOf s w ≡ true → has s w ≡ 1
@@ -35,6 +35,17 @@ pub not-held : (p : Place) (s : ℕ) → holds p s ≡ false → (has s (R p) �
 not-held p s e =
     let h = or-false (inR p s) (inF p s) e in
     (is-out (R p) s (h .0), is-out (F p) s (h .1))
+
+pub held-holds : (p : Place) (s : ℕ) → Held p s → holds p s ≡ true
+held-holds p s h = go (holds p s) refl
+  where
+    go : (b : Bool) → holds p s ≡ b → b ≡ true
+    go true e = refl
+    go false e = let n = not-held p s e in absurd (omega (arith, h .some, n .0, n .1))
+
+-- a link whose R and F are empty holds nobody
+pub nobody-held : (p : Place) → R p ≡ 0 → F p ≡ 0 → (s : ℕ) → Held p s → ⊥
+nobody-held p r f s h = omega (arith, h .some, ap (has s) r, ap (has s) f, has-zero s)
 
 -- a session that is in one of two words goes to the second: who is in one of them stays so
 pub move-all : (r f s t : ℕ) → has s r + has s f ≡ 1 → has t (cut s r) + has t (put s f) ≡ has t r + has t f

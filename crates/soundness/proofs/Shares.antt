@@ -10,7 +10,6 @@ use native.Mathlib.Decide.{ℕ-discrete}
 use native.Mathlib.Nat.{le-of-mul-le-mul-right, lt-of-mul-lt-mul-right, mul-le-mul-left, mul-lt-mul-of-pos-right, mul-pos}
 use native.Mathlib.Omega.{arith}
 use Rattle.fairness.proofs.CommonDenominator.{together}
-use Rattle.fairness.proofs.Sums.{sum-at}
 use Rattle.fractions.specs.declared.Rate.{Rate}
 use Rattle.fractions.specs.declared.Share.{Share}
 use Rattle.fractions.specs.declared.Share.the-variants as share
@@ -32,7 +31,7 @@ use Rattle.sessions.proofs.Members.{cut-le, has-cut-other, has-cut-same, has-pu
 use Rattle.sessions.proofs.Walks.{walk-cong}
 use Rattle.soundness.specs.Sound.{Over, Sound, weight}
 use Rattle.soundness.proofs.Changes.{waiting-alike, with-entries}
-use Rattle.soundness.proofs.Weights.{Comes, members-weigh, past-weigh, size-sum, weight-put}
+use Rattle.soundness.proofs.Weights.{Comes, member-size, members-weigh, past-weigh, weight-put}
 
 -- THE SUM OF F --------------------------------------------------------------------------------------------------------
 
@@ -138,9 +137,6 @@ share-cross : (C : ℕ) (y b : Rate) (k : ℕ) → eachOf C y k ≡ b → b .num
 unfolding eachOf
 share-cross C y b k e =
     subst (λ (z : Rate). z .num * (y .den * k) ≡ (C * y .den - y .num) * z .den) e (lowest-same (C * y .den - y .num) (y .den * k) .cross)
-
-member-size : (w s : ℕ) → s < 32 → has s w ≡ 1 → 0 < sizeOf w
-member-size w s l h = omega (arith, size-sum w, sum-at 32 (λ t. has t w) s l)
 
 pub sound-free : (p : Place) (s : ℕ) → Sound p → s < 32 → has s (R p) ≡ 1 → belowB (B p) (rateAt p s) ≡ true
     → Sound (withWords p (cut s (R p)) (put s (F p)))

@@ -6,7 +6,7 @@ use mathlib.Core.Path.{_≡_, ap, refl, subst, sym, _∙_}
 use Prim.Native.Nat.{ℕ, zero, suc, _+_, _*_, _/_, _%_, _≤_, _<_}
 use lib.Count.{onesIn}
 use lib.Dec.{eqb, eqb→eq, lit≤}
-use native.Mathlib.Nat.{mul-le-mul-right, mul-pos, lt-of-mul-lt-mul-right, mul-lt-mul-of-pos-right}
+use native.Mathlib.Nat.{le-of-mul-le-mul-right, lt-of-mul-lt-mul-right, mul-le-mul-right, mul-lt-mul-of-pos-right, mul-pos}
 use native.Mathlib.Decide.{ℕ-discrete}
 use native.Mathlib.Omega.{arith}
 use borrow.Author.Tests.{eq-eqb, ne-eqb}
@@ -15,7 +15,7 @@ use Rattle.fairness.proofs.Sums.{sum-add, sum-at, sum-eq, sum-first, sum-le, su
 use Rattle.fractions.specs.declared.Rate.{Rate}
 use Rattle.fractions.specs.declared.Sum.{Sum}
 use Rattle.fractions.specs.declared.Sum.the-variants as outcome
-use Rattle.fractions.specs.Fraction.{Same, addOf, frac, leOf, plusOf, wholeOf, zeroOf}
+use Rattle.fractions.specs.Fraction.{Same, Sized, addOf, frac, leOf, plusOf, wholeOf, zeroOf}
 use Rattle.fractions.proofs.Cases.{cases, eqb-T}
 use Rattle.fractions.proofs.LowestTerms.{lowest-pos, lowest-same}
 use Rattle.fractions.proofs.Order.{le-false, same-trans}
@@ -23,7 +23,8 @@ use Rattle.fractions.proofs.Ranges.{plus-rate}
 use Rattle.links.specs.declared.Place.{Place}
 use Rattle.links.specs.declared.Total.{Total}
 use Rattle.links.specs.declared.Total.the-variants as total
-use Rattle.links.specs.Links.{F, moreOf, rateAt, sumOf, uptoOf}
+use Rattle.links.specs.Links.{F, TotalSized, Workable, moreOf, rateAt, sumOf, uptoOf}
+use Rattle.links.proofs.Sizes.{sum-sized}
 use Rattle.sessions.specs.Set.{has, membersFrom, put, sizeOf, walk}
 use Rattle.sessions.proofs.Members.{has-or-not, has-put-other, has-put-same}
 use Rattle.sessions.proofs.Walks.{members-even, members-odd}
@@ -75,6 +76,10 @@ ones-sum (suc k) w = omega (arith, ones-sum k (w / 2), sum-first k (λ s. has s 
 
 pub size-sum : (w : ℕ) → sizeOf w ≡ sum 32 (λ s. has s w)
 size-sum w = ones-sum 32 w
+
+-- a set with a member has a size above 0
+pub member-size : (w s : ℕ) → s < 32 → has s w ≡ 1 → 0 < sizeOf w
+member-size w s l h = omega (arith, size-sum w, sum-at 32 (λ t. has t w) s l)
 
 -- A WALK OVER THE MEMBERS ---------------------------------------------------------------------------------------------
 
@@ -173,6 +178,13 @@ module _ (N : ℕ) (x : ℕ → ℕ) (p : Place) (h : 0 < N) (c : (s : ℕ) → 
   -- where the sum of F is a rate, it is what F's members weigh
   pub members-weigh : (y : Rate) → sumOf p ≡ total.Rate y → Comes N y (weight (F p) x)
   members-weigh y e = subst (λ (t : Total). Stands (p .link .capacity) N t (weight (F p) x)) e sum-stands
+
+  -- and as it is then at most C, they weigh at most C
+  pub members-within : (y : Rate) → Workable p → sumOf p ≡ total.Rate y → weight (F p) x ≤ N * p .link .capacity
+  members-within y work e =
+      let i = members-weigh y e in
+      let z : Sized (p .link .capacity) y = subst (TotalSized (p .link .capacity)) e (sum-sized p work) in
+      le-of-mul-le-mul-right {k = y .den} (omega (arith, i .same .cross, mul-le-mul-right N (z .num))) (i .pos)
 
   -- and where it is past C, they weigh more than C
   pub past-weigh : sumOf p ≡ total.PastC → N * p .link .capacity < weight (F p) x

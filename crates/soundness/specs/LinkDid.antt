@@ -17,6 +17,7 @@ use Rattle.tasks.specs.declared.Onward.the-variants as onward
 use Rattle.tasks.specs.Packets.{goesDown, isLeave}
 use Rattle.soundness.specs.Sound.{Held, Sound}
 
+-- whether a packet is a Join
 abbrev pub isJoin : Kind → Bool
 isJoin (kind.Join x η) = true
 isJoin (kind.Probe x η) = false

@@ -16,6 +16,7 @@ pub record Waiting (p : Place) (r : ℕ) : Type 0 where
   pub restricted : inR p r ≡ true
   pub awaits : awaitsResponse (muAt p r) ≡ true
 
+-- whether a packet is a Response
 abbrev pub isResponse : Kind → Bool
 isResponse (kind.Join x η) = false
 isResponse (kind.Probe x η) = false
