@@ -1,0 +1,153 @@
+// A card that keeps its own link and entries. It runs the link's task on packets, and the F check alone, through the lent forms, and prints what comes
+// of each. The expected lines are worked out by hand from 001, Figure 2.
+mod says;
+
+use fractions::Rate;
+use links::Entry;
+use links::Link;
+use links::Mu;
+use links::Place;
+use tasks::Eta;
+use tasks::Kind;
+use tasks::Tau;
+
+fn whole(n: u64) -> Rate {
+    Rate { num: n, den: 1 }
+}
+
+fn idle(num: u64, den: u64) -> Entry {
+    Entry {
+        mu: Mu::Idle,
+        rate: Rate { num: num, den: den },
+    }
+}
+
+// The link's task on a packet of session s: the card is link 0.
+fn packet(card: Place, s: u32, kind: Kind) -> Place {
+    let link = card.link;
+    let entries = card.entries;
+    let x = lent::step_link_plain(0, s, kind, link, entries);
+    let answer = x.answer;
+    says::stepped(answer);
+    let l = x.link;
+    let a = x.entries;
+    let next = Place {
+        link: l,
+        entries: a,
+    };
+    says::place(next);
+    next
+}
+
+// The F check alone.
+fn check(card: Place) {
+    let link = card.link;
+    let entries = card.entries;
+    let x = lent::f_check_plain(link, entries);
+    let answer = x.answer;
+    says::checked(answer);
+    let l = x.link;
+    let a = x.entries;
+    says::place(Place {
+        link: l,
+        entries: a,
+    });
+}
+
+// A link with no session.
+fn empty(capacity: u64) -> Place {
+    let entries = lent::no_entries();
+    Place {
+        link: Link {
+            capacity: capacity,
+            r: 0,
+            f: 0,
+        },
+        entries: entries,
+    }
+}
+
+// Session 0 joins, and has the whole link.
+fn first_session(card: Place) -> Place {
+    says::text(b"join of 0:");
+    let a = packet(card, 0, Kind::Join(whole(100), Eta::Own));
+    says::text(b"response to 0:");
+    packet(a, 0, Kind::Response(Tau::Response, whole(10), Eta::Link(0)))
+}
+
+// Session 1 joins, which can use no more than 3, and goes to F.
+fn second_session(card: Place) -> Place {
+    says::text(b"join of 1:");
+    let a = packet(card, 1, Kind::Join(whole(3), Eta::Own));
+    says::text(b"response to 1:");
+    let b = packet(a, 1, Kind::Response(Tau::Response, whole(3), Eta::Own));
+    says::text(b"set bottleneck of 1:");
+    packet(b, 1, Kind::SetBottleneck(false))
+}
+
+// Session 0 asks again and gets what is left.
+fn first_again(card: Place) -> Place {
+    says::text(b"probe of 0:");
+    let a = packet(card, 0, Kind::Probe(whole(100), Eta::Own));
+    says::text(b"response to 0:");
+    packet(a, 0, Kind::Response(Tau::Response, whole(7), Eta::Link(0)))
+}
+
+// A packet of a session that is not there, and a leave.
+fn last_packets(card: Place) -> Place {
+    says::text(b"update of 2, which is not there:");
+    let a = packet(card, 2, Kind::Update);
+    says::text(b"leave of 0:");
+    packet(a, 0, Kind::Leave)
+}
+
+// A card with these words of R and F, and these entries.
+fn card_of(capacity: u64, r: u32, f: u32, entries: [Entry; 32]) -> Place {
+    Place {
+        link: Link { capacity, r, f },
+        entries: entries,
+    }
+}
+
+// Of F with 5 and 3 the 5 returns first, and then B is above 3. A member of F with exactly B returns.
+fn checks() {
+    let mut a = lent::no_entries();
+    a[0] = idle(5, 1);
+    a[1] = idle(3, 1);
+    a[2] = idle(9, 1);
+    says::text(b"F check of 5 and 3:");
+    check(card_of(10, 4, 3, a));
+    says::text(b"F check of exactly B:");
+    check(card_of(10, 2, 1, a));
+}
+
+// Refusal 12 leaves the card as it was.
+fn too_fine() {
+    let mut a = lent::no_entries();
+    a[0] = idle(1, 1048576);
+    says::text(b"F check with a B that is too fine:");
+    check(card_of(1, 6, 1, a));
+    says::text(b"a join that makes it too fine:");
+    packet(card_of(1, 2, 1, a), 2, Kind::Join(whole(1), Eta::Own));
+}
+
+// So does refusal 14.
+fn out_of_range() {
+    let mut a = lent::no_entries();
+    says::text(b"a packet of session 32:");
+    packet(card_of(1, 2, 1, a), 32, Kind::Leave);
+    a[3] = idle(2, 2);
+    says::text(b"F check with a rate of 2/2:");
+    check(card_of(1, 2, 1, a));
+}
+
+fn main() {
+    let a = empty(10);
+    let b = first_session(a);
+    let c = second_session(b);
+    let d = first_again(c);
+    last_packets(d);
+    checks();
+    too_fine();
+    out_of_range();
+}

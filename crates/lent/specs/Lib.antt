@@ -1,0 +1,2 @@
+-- The definitions that the contracts of lent cite.
+pub mod Lent
