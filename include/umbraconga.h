@@ -2,7 +2,7 @@
  * Link with the archive that `rt staticlib exports` writes, target/staticlib/libexports.a. Every call takes every input and ends. A refusal is
  * reported by its number (README.md has the table), and what is refused changes nothing: a calculation writes no slice, a run leaves the table as it
  * was before the refused record. No call allocates, prints or keeps anything. What is handed to one call must be valid for as many elements as the
- * call names, aligned, and must not overlap.
+ * call names, not null even where a length is 0, aligned, and must not overlap.
  */
 #ifndef UMBRACONGA_H
 #define UMBRACONGA_H
@@ -22,7 +22,8 @@ extern "C" {
 
 /* The direct calculation. For every session that the records declare, its place in nums and dens gets the rate and its place in places the binding
  * link, or UMBRACONGA_OWN; other places keep what they had. Each slice needs 32 places at least.
- * report: 0 the refusal's number, or 0; 1 the place of the refused record's kind byte; 2 the word of declared links; 3 the word of declared sessions. */
+ * report: 0 the refusal's number, or 0; 1 the place of the refused record's kind byte (0 for 1 and 15); 2 the word of declared links; 3 the word of
+ * declared sessions; both are 0 after a refusal. */
 void umbraconga_calculate(const uint8_t *records, size_t records_len, uint64_t *nums, size_t nums_len, uint64_t *dens, size_t dens_len,
                           uint64_t *places, size_t places_len, uint64_t report[4]);
 
@@ -30,7 +31,7 @@ void umbraconga_calculate(const uint8_t *records, size_t records_len, uint64_t *
 void umbraconga_empty(uint64_t table[UMBRACONGA_TABLE_WORDS]);
 
 /* Runs records on a table.
- * report: 0 the refusal's number, or 0; 1 the place of the refused record's kind byte; 2 how many records were taken. */
+ * report: 0 the refusal's number, or 0; 1 the place of the refused record's kind byte (0 for 1 and 14); 2 how many records were taken. */
 void umbraconga_run(uint64_t table[UMBRACONGA_TABLE_WORDS], const uint8_t *records, size_t records_len, uint64_t report[3]);
 
 /* Whether a table is settled: 1 yes, 0 no, 14 where the table is turned away. */
@@ -40,7 +41,7 @@ uint64_t umbraconga_settled(const uint64_t table[UMBRACONGA_TABLE_WORDS]);
 uint64_t umbraconga_in_flight(const uint64_t table[UMBRACONGA_TABLE_WORDS]);
 
 /* What a session was last told. Of a table that `umbraconga_settled` turns away this means nothing.
- * report: 0 whether the session is active; 1 and 2 the numerator and the denominator last told, 0 and 0 where none was. */
+ * report: 0 whether the session is active (none over 31 is); 1 and 2 the numerator and the denominator last told, 0 and 0 where none was. */
 void umbraconga_told(const uint64_t table[UMBRACONGA_TABLE_WORDS], uint32_t session, uint64_t report[3]);
 
 #ifdef __cplusplus

@@ -30,7 +30,7 @@ pub fn compare(
     if lengths.iter().all(|&length| length >= umbraconga::SESSIONS) {
         owned_form(records, ours, &ours_after)?;
     }
-    tally.calculation(ours.err().map_or(0, |(number, _)| number));
+    tally.calculation(records, ours.err().map_or(0, |(number, _)| number));
     Ok(())
 }
 
@@ -43,7 +43,8 @@ pub fn compare_plainly(
     compare(records, [32; 3], random, tally)
 }
 
-fn by_library(records: &[u8], mut slices: [Vec<u64>; 3]) -> (Answer, [Vec<u64>; 3]) {
+/// The library's answer, and the three slices after it.
+pub fn by_library(records: &[u8], mut slices: [Vec<u64>; 3]) -> (Answer, [Vec<u64>; 3]) {
     let [nums, dens, places] = &mut slices;
     let answer = calculate_into(records, nums, dens, places);
     let answer = answer
@@ -52,7 +53,8 @@ fn by_library(records: &[u8], mut slices: [Vec<u64>; 3]) -> (Answer, [Vec<u64>; 
     (answer, slices)
 }
 
-fn by_second(records: &[u8], mut slices: [Vec<u64>; 3]) -> (Answer, [Vec<u64>; 3]) {
+/// The second implementation's answer, and the three slices after it.
+pub fn by_second(records: &[u8], mut slices: [Vec<u64>; 3]) -> (Answer, [Vec<u64>; 3]) {
     let [nums, dens, places] = &mut slices;
     let answer = other::calculate(records, nums, dens, places);
     let answer = answer

@@ -2,31 +2,40 @@
 //! records of the same links and sessions, with their present maxima, give.
 
 use second::machine::table::{Table as Other, YES};
-use umbraconga::{calculate, Table, Told};
+use umbraconga::{Table, Told};
 
+use crate::calculation::{by_library, by_second};
 use crate::difference::{same, Difference};
 use crate::records::{link, session};
 use crate::tally::Tally;
 use crate::words::SESSIONS;
 
-/// Compares what the sessions of a settled table were told with the calculation.
+/// Compares what the sessions of a settled table were told with the calculation, on both sides.
 pub fn compare(second: &Other, ours: &Table, tally: &mut Tally) -> Result<(), Difference> {
     let records = records_of(second);
-    let rates = calculate(&records).map_err(|refused| {
-        Difference::new(
-            "the calculation of a settled table",
-            &records,
-            refused,
-            "accepted",
-        )
-    })?;
+    let slices = || [vec![0; SESSIONS], vec![0; SESSIONS], vec![0; SESSIONS]];
+    let calculated = by_second(&records, slices());
+    same(
+        "the calculation of a settled table",
+        &records,
+        &by_library(&records, slices()),
+        &calculated,
+    )?;
+    let (answer, [nums, dens, _]) = calculated;
+    let sessions = match answer {
+        Ok((_, sessions)) => sessions,
+        Err(refused) => {
+            let what = "the calculation of a settled table";
+            return Err(Difference::new(what, &records, "accepted", refused));
+        }
+    };
     for number in 0..SESSIONS {
-        let calculated = match rates.get(number) {
-            Some(share) => Told::Rate {
-                num: share.num,
-                den: share.den,
+        let calculated = match sessions >> number & 1 {
+            1 => Told::Rate {
+                num: nums[number],
+                den: dens[number],
             },
-            None => Told::NotActive,
+            _ => Told::NotActive,
         };
         let told = ours.told(number as u32);
         same(
@@ -36,7 +45,7 @@ pub fn compare(second: &Other, ours: &Table, tally: &mut Tally) -> Result<(), Di
             calculated,
         )?;
     }
-    tally.settled(rates.iter().count() as u64);
+    tally.settled(u64::from(sessions.count_ones()));
     Ok(())
 }
 

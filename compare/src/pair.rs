@@ -88,7 +88,7 @@ impl Pair {
             self.taken.extend(&records[..end]);
         }
         self.same_answers(records, tally)?;
-        tally.run(ran.taken, number);
+        tally.run(records, ran.taken, number);
         Ok(ran)
     }
 

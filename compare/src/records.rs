@@ -1,5 +1,15 @@
 //! Records as bytes (01, "Records").
 
+/// How many bytes a record of this kind has.
+pub fn record_bytes(kind: u8) -> usize {
+    match kind {
+        1 | 4 => 6,
+        2 => 19,
+        3 => 2,
+        _ => 3,
+    }
+}
+
 /// Kind 1: declare a link.
 pub fn link(number: u8, capacity: u32) -> Vec<u8> {
     [&[1, number][..], &capacity.to_be_bytes()].concat()

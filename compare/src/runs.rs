@@ -8,7 +8,7 @@ use crate::difference::Difference;
 use crate::networks::{damage, INPUT_BYTES};
 use crate::pair::Pair;
 use crate::random::Random;
-use crate::records::change;
+use crate::records::{change, record_bytes};
 use crate::tally::Tally;
 use crate::world::World;
 
@@ -114,12 +114,7 @@ pub fn record_ends(records: &[u8]) -> Vec<usize> {
     let mut ends = Vec::new();
     let mut place = 0;
     while place < records.len() {
-        place += match records[place] {
-            1 | 4 => 6,
-            2 => 19,
-            3 => 2,
-            _ => 3,
-        };
+        place += record_bytes(records[place]);
         ends.push(place);
     }
     ends

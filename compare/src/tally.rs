@@ -5,6 +5,8 @@ use std::fmt;
 
 use second::machine::Fault;
 
+use crate::records::record_bytes;
+
 /// The clauses of refusal 14 in the order of its sentence.
 const CLAUSES: [Fault; 11] = [
     Fault::FieldOutsideRange,
@@ -20,13 +22,18 @@ const CLAUSES: [Fault; 11] = [
     Fault::SumsTooFine,
 ];
 
+/// The kinds of records.
+const KINDS: [&str; 5] = ["links", "joins", "leaves", "changes", "deliveries"];
+
 /// The counts of one part of the work; parts are added up.
 #[derive(Default)]
 pub struct Tally {
     /// Calls compared, by sort of input.
     calls: BTreeMap<&'static str, u64>,
-    /// Records that both sides took.
-    records: u64,
+    /// Records that both sides took, by kind.
+    records: [u64; KINDS.len()],
+    /// Inputs without a byte.
+    empty: u64,
     /// Tables compared in all their words that are in use.
     tables: u64,
     /// Settled tables whose rates told were compared with the calculation, and their sessions.
@@ -47,17 +54,25 @@ impl Tally {
         self.sort = sort;
     }
 
-    /// A calculation was compared; 0 where it was accepted.
-    pub fn calculation(&mut self, refusal: u64) {
+    /// A calculation of these records was compared; 0 where it was accepted.
+    pub fn calculation(&mut self, records: &[u8], refusal: u64) {
+        self.empty += u64::from(records.is_empty());
         *self.calls.entry(self.sort).or_default() += 1;
         self.by_calculation[refusal as usize] += 1;
     }
 
-    /// A run was compared, and its tables; 0 where it was accepted.
-    pub fn run(&mut self, taken: u64, refusal: u64) {
+    /// A run of these records was compared, and its table unless it was turned away; 0 where it was
+    /// accepted.
+    pub fn run(&mut self, records: &[u8], taken: u64, refusal: u64) {
         *self.calls.entry(self.sort).or_default() += 1;
-        self.records += taken;
-        self.tables += 1;
+        self.empty += u64::from(records.is_empty());
+        let mut place = 0;
+        for _ in 0..taken {
+            let kind = records[place];
+            self.records[usize::from(kind) - 1] += 1;
+            place += record_bytes(kind);
+        }
+        self.tables += u64::from(refusal != 14);
         self.by_machine[refusal as usize] += 1;
     }
 
@@ -79,7 +94,8 @@ impl Tally {
         for (sort, calls) in &other.calls {
             *self.calls.entry(sort).or_default() += calls;
         }
-        self.records += other.records;
+        add_each(&mut self.records, &other.records);
+        self.empty += other.empty;
         self.tables += other.tables;
         self.settled += other.settled;
         self.sessions += other.sessions;
@@ -126,9 +142,12 @@ impl fmt::Display for Tally {
         writeln!(f, "{:>9} calls in all", self.calls())?;
         writeln!(
             f,
-            "{:>9} records taken by the machine, {} tables compared",
-            self.records, self.tables
+            "{:>9} of them on empty inputs, {} tables compared",
+            self.empty, self.tables
         )?;
+        for (kind, taken) in KINDS.iter().zip(&self.records) {
+            writeln!(f, "{taken:>9} {kind} taken by the machine")?;
+        }
         writeln!(
             f,
             "{:>9} settled tables, {} sessions in them told the calculation's rate",

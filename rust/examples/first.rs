@@ -1,16 +1,11 @@
-use umbraconga::{calculate, Table, Told};
+use umbraconga::{calculate, Refused, Table};
 
-fn main() -> Result<(), umbraconga::Refused> {
-    let records = [
-        1, 0, 0, 0, 0, 10, 2, 0, 0, 0, 0, 100, 0, 0, 0, 0, 1, 0, 255, 255, 255, 255, 255, 255, 255,
-    ];
-    println!("{}", calculate(&records)?);
+fn main() -> Result<(), Refused> {
+    let records = b"\x01\0\0\0\0\x0a\x02\0\0\0\0\x64\0\0\0\0\x01\0\xff\xff\xff\xff\xff\xff\xff";
+    println!("{}", calculate(records)?);
     let mut table = Table::empty();
-    assert_eq!(table.run(&records).refused, None);
+    table.run(records).refused.map_or(Ok(()), Err)?;
     while table.run(&[5, 0, 0]).refused.is_none() {}
-    assert_eq!(
-        (table.settled()?, table.told(0)),
-        (true, Told::Rate { num: 10, den: 1 })
-    );
+    println!("settled: {}, told: {}", table.settled()?, table.told(0));
     Ok(())
 }

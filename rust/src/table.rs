@@ -10,12 +10,14 @@ use crate::{raw, Refused, SESSIONS, TABLE_WORDS};
 /// |---|---|
 /// | 0 | 64 links of 3 words: capacity (0: not declared), the words of R and F, bit s for session s |
 /// | 192 | 64 times 32 entries of 3 words, link by link: state (0 idle, 1 waiting for a probe, 2 waiting for a response), numerator and denominator of the rate |
-/// | 6336 | 32 sources of 24 words: active, access rate, maximum, whether the source's own F holds the session, state, whether an update was noted, whether a bottleneck was, whether a rate was told; numerator and denominator of the rate, then of the rate told; the length of the path (0: never joined), three words that are not used, the 8 links of the path (255 where unused) |
+/// | 6336 | 32 sources of 24 words: active, access rate, maximum, whether the source's own F holds the session, state, whether an update was noted, whether a bottleneck was, whether a rate was told; numerator and denominator of the rate, then of the rate told; the length of the path (0: never joined), three words that are not used, the 8 links of the path |
 /// | 7104 | 256 packets of 8 words: session, hop, 1 for downstream, kind (0 Join, 1 Probe, 2 Response, 3 Update, 4 Bottleneck, 5 SetBottleneck, 6 Leave), numerator, denominator, the link that imposed the rate (64: the source's own line), and what a Response (0 RESPONSE, 1 UPDATE, 2 BOTTLENECK) or SetBottleneck (1 with a bottleneck) says |
 /// | 9152 | how many packets are in flight |
 ///
-/// An entry is in use where its session is in R or F, a source where its session has joined, a packet
-/// below the count. Words that are not in use may hold anything; a run may change them.
+/// An entry is in use where its session is in R or F, a source where its session has joined (its words
+/// `active` and length of the path always are), a place of the path below its length, the rate told
+/// where one was, a packet below the count, and of it the words that its kind carries. Words that are
+/// not in use may hold anything; a run may change them.
 #[derive(Clone)]
 pub struct Table {
     words: Box<raw::Words>,
@@ -86,8 +88,9 @@ impl Table {
         }
     }
 
-    /// Whether the table is settled: no packet is in flight, and every active session has been told
-    /// its max-min fair rate. A table with a fault is refused 14.
+    /// Whether the table is settled, by the specification's five conditions. In a table that runs
+    /// reached from the empty one, every active session has then been told its max-min fair rate. A
+    /// table with a fault is refused 14.
     pub fn settled(&self) -> Result<bool, Refused> {
         match raw::settled(&self.words) {
             0 => Ok(false),
@@ -96,12 +99,13 @@ impl Table {
         }
     }
 
-    /// How many packets are in flight.
+    /// How many packets are in flight. Of a table that is refused 14 this means nothing.
     pub fn in_flight(&self) -> u64 {
         raw::in_flight(&self.words)
     }
 
-    /// What a session was last told. No session has a number over 31.
+    /// What a session was last told. No session has a number over 31. Of a table that is refused 14
+    /// this means nothing.
     pub fn told(&self, session: u32) -> Told {
         let [active, num, den] = raw::told(&self.words, session);
         match (active, den) {

@@ -11,10 +11,6 @@ use tasks::Eta;
 use tasks::Kind;
 use tasks::Tau;
 
-fn whole(n: u64) -> Rate {
-    Rate { num: n, den: 1 }
-}
-
 fn idle(num: u64, den: u64) -> Entry {
     Entry {
         mu: Mu::Idle,
@@ -70,17 +66,25 @@ fn empty(capacity: u64) -> Place {
 // Session 0 joins, and has the whole link.
 fn first_session(card: Place) -> Place {
     says::text(b"join of 0:");
-    let a = packet(card, 0, Kind::Join(whole(100), Eta::Own));
+    let a = packet(card, 0, Kind::Join(Rate::whole(100), Eta::Own));
     says::text(b"response to 0:");
-    packet(a, 0, Kind::Response(Tau::Response, whole(10), Eta::Link(0)))
+    packet(
+        a,
+        0,
+        Kind::Response(Tau::Response, Rate::whole(10), Eta::Link(0)),
+    )
 }
 
 // Session 1 joins, which can use no more than 3, and goes to F.
 fn second_session(card: Place) -> Place {
     says::text(b"join of 1:");
-    let a = packet(card, 1, Kind::Join(whole(3), Eta::Own));
+    let a = packet(card, 1, Kind::Join(Rate::whole(3), Eta::Own));
     says::text(b"response to 1:");
-    let b = packet(a, 1, Kind::Response(Tau::Response, whole(3), Eta::Own));
+    let b = packet(
+        a,
+        1,
+        Kind::Response(Tau::Response, Rate::whole(3), Eta::Own),
+    );
     says::text(b"set bottleneck of 1:");
     packet(b, 1, Kind::SetBottleneck(false))
 }
@@ -88,9 +92,13 @@ fn second_session(card: Place) -> Place {
 // Session 0 asks again and gets what is left.
 fn first_again(card: Place) -> Place {
     says::text(b"probe of 0:");
-    let a = packet(card, 0, Kind::Probe(whole(100), Eta::Own));
+    let a = packet(card, 0, Kind::Probe(Rate::whole(100), Eta::Own));
     says::text(b"response to 0:");
-    packet(a, 0, Kind::Response(Tau::Response, whole(7), Eta::Link(0)))
+    packet(
+        a,
+        0,
+        Kind::Response(Tau::Response, Rate::whole(7), Eta::Link(0)),
+    )
 }
 
 // A packet of a session that is not there, and a leave.
@@ -128,7 +136,7 @@ fn too_fine() {
     says::text(b"F check with a B that is too fine:");
     check(card_of(1, 6, 1, a));
     says::text(b"a join that makes it too fine:");
-    packet(card_of(1, 2, 1, a), 2, Kind::Join(whole(1), Eta::Own));
+    packet(card_of(1, 2, 1, a), 2, Kind::Join(Rate::whole(1), Eta::Own));
 }
 
 // So does refusal 14.

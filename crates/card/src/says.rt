@@ -90,8 +90,8 @@ fn refused(r: Refusal) {
 
 fn burst(x: Burst, to: u32) {
     match x {
-        Burst::Update => text(b" Update to "),
-        Burst::Bottleneck => text(b" Bottleneck to "),
+        Burst::Update => text(b" Update to word "),
+        Burst::Bottleneck => text(b" Bottleneck to word "),
     }
     decimal(to as u64);
 }
@@ -129,7 +129,7 @@ fn bound(x: Bound) {
 pub fn checked(x: FChecked) {
     match x {
         FChecked::Done { to, bound: b } => {
-            text(b" Update to ");
+            text(b" Update to word ");
             decimal(to as u64);
             text(b", B");
             bound(b);

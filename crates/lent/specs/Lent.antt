@@ -39,7 +39,7 @@ placeOf l es = record { link = l; entries = es }
 unfoldable pub ratesFit : List Entry → Bool
 ratesFit es = all 32 (λ s. isRateOf (getD es s noEntry .rate))
 
--- and the link's capacity
+-- and the link's capacity: at most 1,000,000 (0, of a link that is not declared, is taken)
 unfoldable pub fits : Link → List Entry → Bool
 fits l es = leb (l .capacity) maxRate && ratesFit es
 
@@ -87,7 +87,8 @@ checkNumber (checked.Refused r) = numberOf r
 abbrev pub stepRefused : Refusal → Link → List Entry → Stepping
 stepRefused r l es = record { link = l; entries = es; answer = stepped.Refused r }
 
--- 001, Figure 2, worked out as d; where a sum or B that it reads is too fine, refusal 12
+-- 001, Figure 2, worked out as d; where a sum or B that it reads, or that its change makes, is too fine, refusal 12. A link that was too fine before and
+-- that the rule does not read is not refused: for the machine the test of 14 comes before
 abbrev pub steppedOf : Did → Link → List Entry → Stepping
 steppedOf d l es =
     cond (d .fine)

@@ -51,7 +51,7 @@ pub fn no_entries() -> [Entry; 32]
 {
     [Entry {
         mu: Mu::Idle,
-        rate: Rate { num: 0, den: 1 },
+        rate: Rate::ZERO,
     }; 32]
 }
 
