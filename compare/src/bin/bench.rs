@@ -1,6 +1,6 @@
 //! Times the proved library and the second implementation in one run on the same inputs: the
 //! calculation on a small, a middle and a full-size input, and the machine by deliveries on a small and
-//! a full table. Of several rounds, in which the two sides take turns, the lowest time of each counts.
+//! a full table; and counts the packets until a table is settled. Of several rounds, in which the two sides take turns, the lowest time of each counts.
 
 use std::hint::black_box;
 use std::time::{Duration, Instant};
@@ -38,6 +38,25 @@ fn main() {
     let name = "delivery in a call of its own, full table";
     machine(name, &full, many_calls(&full));
     println!("time of one calculation or delivery; ratio: library / second; how many a second");
+    packets("2 links, 3 sessions, paths of 2", &small);
+    packets("64 links, 32 sessions, paths of 8", &full);
+}
+
+// How many packets are delivered until none is in flight and the table is settled (01: measured, not
+// proved), always the one that was sent first.
+fn packets(name: &str, load: &Busy) {
+    let mut table = Table::empty();
+    for records in &load.before {
+        assert_eq!(table.run(records).refused, None);
+    }
+    assert_eq!(table.settled(), Ok(true), "at rest");
+    let records = record_ends(&load.records).len();
+    let joined = load.before.len() - 1;
+    let a_change = load.deliveries as f64 / (records - load.deliveries) as f64;
+    println!(
+        "{name}: settled after {joined} deliveries where all join at once, and after {a_change:.1} \
+         on the average where one changes its maximum"
+    );
 }
 
 // A row: the lowest time of each side for one piece of work, and their ratio.
