@@ -5,10 +5,9 @@
 use crate::difference::Difference;
 use crate::pair::Pair;
 use crate::random::Random;
-use crate::records::{change, deliver, leave, link, session};
 use crate::tally::Tally;
 use crate::words::{entry_at, link_at, packet_at, source_at, zeros, Words, COUNT};
-use crate::world::is_in_turn;
+use second::making::{change, deliver, is_in_turn, leave, link, session};
 
 // What a table is built over.
 struct Plan {

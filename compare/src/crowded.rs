@@ -6,9 +6,8 @@ use second::machine::table::Packet;
 use crate::difference::Difference;
 use crate::pair::Pair;
 use crate::random::Random;
-use crate::records::{change, deliver, leave, link, session};
 use crate::tally::Tally;
-use crate::world::is_in_turn;
+use second::making::{change, deliver, is_in_turn, leave, link, session};
 
 /// Many sessions at rest on one link. A few of them change again and again, and only their packets
 /// are delivered; what the link tells the others stays in flight. Then any events.

@@ -6,9 +6,9 @@ use umbraconga::{Table, Told};
 
 use crate::calculation::{by_library, by_second};
 use crate::difference::{same, Difference};
-use crate::records::{link, session};
 use crate::tally::Tally;
 use crate::words::SESSIONS;
+use second::making::{link, session};
 
 /// Compares what the sessions of a settled table were told with the calculation, on both sides.
 pub fn compare(second: &Other, ours: &Table, tally: &mut Tally) -> Result<(), Difference> {

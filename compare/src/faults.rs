@@ -6,9 +6,9 @@ use crate::damage::ODD_NUMBERS;
 use crate::difference::{same, Difference};
 use crate::pair::Pair;
 use crate::random::Random;
-use crate::records::{deliver, leave, link, session};
 use crate::tally::Tally;
 use crate::words::{entry_at, in_use, link_at, packet_at, source_at, table_of, Words, COUNT};
+use second::making::{deliver, leave, link, session};
 
 // A packet of session 0 for each kind that `reached` has none of: hop, down, kind, rate, name, and what
 // a Response or SetBottleneck says.

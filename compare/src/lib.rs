@@ -26,7 +26,6 @@ pub mod pair;
 pub mod purpose;
 pub mod random;
 pub mod recorded;
-pub mod records;
 pub mod runs;
 pub mod slices;
 pub mod sorts;

@@ -5,7 +5,7 @@ use second::machine::{run, Table as Other};
 
 use crate::networks::sized_network;
 use crate::random::Random;
-use crate::records::{change, deliver};
+use second::making::{change, deliver};
 
 /// A table at rest, as the records that lead to it from the empty one, and the records to time.
 pub struct Busy {

@@ -3,8 +3,8 @@
 use crate::calculation::{compare, compare_plainly};
 use crate::difference::Difference;
 use crate::random::Random;
-use crate::records::{link, session};
 use crate::tally::Tally;
+use second::making::{link, session};
 
 /// The largest input that is read.
 pub const INPUT_BYTES: usize = 32_768;

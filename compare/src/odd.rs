@@ -5,9 +5,9 @@ use crate::difference::{same, Difference};
 use crate::pair::Pair;
 use crate::purpose::refuse;
 use crate::random::Random;
-use crate::records::{deliver, leave, session};
 use crate::tally::Tally;
 use crate::words::{entry_at, link_at, packet_at, source_at, zeros, Words, COUNT};
+use second::making::{deliver, leave, session};
 
 /// Both of them.
 pub fn odd_tables(_: &mut Random, tally: &mut Tally) -> Result<(), Difference> {

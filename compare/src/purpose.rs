@@ -6,9 +6,8 @@ use crate::difference::{same, Difference};
 use crate::networks::INPUT_BYTES;
 use crate::pair::Pair;
 use crate::random::Random;
-use crate::records::{change, deliver, leave, link, session};
 use crate::tally::Tally;
-use crate::world::is_in_turn;
+use second::making::{change, deliver, is_in_turn, leave, link, session};
 
 const MOST: u32 = 1_000_000;
 

@@ -23,14 +23,7 @@ pub fn calculations(random: &mut Random, tally: &mut Tally) -> Result<(), Differ
             Ok(rates) => format!("{rates}\n"),
             Err(refused) => format!("{refused}\n"),
         };
-        same(
-            "the recorded text and the library's",
-            &records,
-            &ours,
-            &text,
-        )?;
-        let second = texts::shares(&records);
-        same("the recorded text and second's", &records, &text, &second)?;
+        same_texts(&records, &text, &ours, &texts::shares(&records))?;
     }
     Ok(())
 }
@@ -46,17 +39,16 @@ pub fn runs(_: &mut Random, tally: &mut Tally) -> Result<(), Difference> {
             .refused
             .map_or(String::new(), |refused| format!("{refused}\n"));
         let ours = format!("taken {} {table}\n{refused}", ran.taken);
-        same(
-            "the recorded text and the library's",
-            &records,
-            &ours,
-            &text,
-        )?;
-        let second = texts::steps(&records);
-        same("the recorded text and second's", &records, &text, &second)?;
+        same_texts(&records, &text, &ours, &texts::steps(&records))?;
         pair.again(&record_ends(pair.taken()), tally)?;
     }
     Ok(())
+}
+
+// The text that was recorded is the library's and second's.
+fn same_texts(records: &[u8], text: &str, ours: &str, second: &str) -> Result<(), Difference> {
+    same("the recorded text and the library's", records, ours, text)?;
+    same("the recorded text and second's", records, text, second)
 }
 
 // The inputs of these folders, which are named from this package's own, each with its text. That

@@ -8,9 +8,9 @@ use crate::difference::Difference;
 use crate::networks::{damage, INPUT_BYTES};
 use crate::pair::Pair;
 use crate::random::Random;
-use crate::records::{change, record_bytes};
 use crate::tally::Tally;
 use crate::world::World;
+use second::making::{change, record_bytes};
 
 /// A run in a small world, one record in each call, until nothing is in flight; then once more in
 /// one call and in several.

@@ -5,7 +5,7 @@ use std::fmt;
 
 use second::machine::Fault;
 
-use crate::records::record_bytes;
+use second::making::record_bytes;
 
 /// The clauses of refusal 14 in the order of its sentence.
 const CLAUSES: [Fault; 11] = [

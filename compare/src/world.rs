@@ -5,19 +5,7 @@ use second::machine::table::Packet;
 
 use crate::networks::damage;
 use crate::random::Random;
-use crate::records::{change, deliver, leave, link, session};
-
-/// How the next packet to deliver is chosen, one way for a whole run.
-#[derive(Clone, Copy)]
-enum Turn {
-    Random,
-    EarliestSent,
-    LatestSent,
-    // Packets of one session wait until there are no others.
-    Starving(u64),
-    // Packets on one way wait until there are no others.
-    OneWayLast(u64),
-}
+use second::making::{change, deliver, leave, link, session, Turn};
 
 /// The links and sessions of a run.
 pub struct World {
@@ -25,15 +13,6 @@ pub struct World {
     sessions: Vec<u8>,
     turn: Turn,
     largest_rate: usize,
-}
-
-/// Whether no earlier packet has the same session, hop and direction (01, "Added here").
-pub fn is_in_turn(packets: &[Packet], position: usize) -> bool {
-    let whereabouts = |packet: &Packet| (packet.session, packet.hop, packet.direction);
-    let here = whereabouts(&packets[position]);
-    packets[..position]
-        .iter()
-        .all(|earlier| whereabouts(earlier) != here)
 }
 
 impl World {
@@ -96,21 +75,9 @@ impl World {
 
     /// A delivery that is in turn, if there is a packet.
     pub fn delivery(&self, random: &mut Random, packets: &[Packet]) -> Option<Vec<u8>> {
-        let waits = |&position: &usize| match self.turn {
-            Turn::Starving(session) => packets[position].session == session,
-            Turn::OneWayLast(direction) => packets[position].direction == direction,
-            _ => false,
-        };
-        let in_turn = (0..packets.len()).filter(|&position| is_in_turn(packets, position));
-        let (last, first): (Vec<usize>, Vec<usize>) = in_turn.partition(waits);
-        let choices = if first.is_empty() { last } else { first };
-        let position = match self.turn {
-            _ if choices.is_empty() => return None,
-            Turn::EarliestSent => choices[0],
-            Turn::LatestSent => choices[choices.len() - 1],
-            _ => random.one_of(&choices),
-        };
-        Some(deliver(position))
+        self.turn
+            .position(packets, |choices| random.one_of(choices))
+            .map(deliver)
     }
 
     fn damaged(&self, random: &mut Random, packets: &[Packet]) -> Vec<u8> {

@@ -8,6 +8,7 @@
 pub mod calculation;
 pub mod fraction;
 pub mod machine;
+pub mod making;
 pub mod records;
 pub mod tasks;
 pub mod texts;

@@ -1,48 +1,15 @@
-//! What the tests share: records as bytes, a machine that notes what it took, a small generator.
+//! What the tests share: a machine that notes what it took, a small generator.
 
 use second::calculation::{calculate, Declared};
 use second::machine::table::{Packet, Table};
 use second::machine::{passes_14, run, Ran};
 use second::records::Refused;
 
-/// Kind 1.
-pub fn link(number: u8, capacity: u32) -> Vec<u8> {
-    [&[1, number][..], &capacity.to_be_bytes()].concat()
-}
-
-/// Kind 2, with the unused link bytes 255. A path longer than eight is cut in the record, not in
-/// its length byte.
-pub fn session(number: u8, access: u32, maximum: u32, path: &[u8]) -> Vec<u8> {
-    let mut links = [255; 8];
-    for (place, &on) in links.iter_mut().zip(path) {
-        *place = on;
-    }
-    let mut bytes = vec![2, number];
-    bytes.extend(access.to_be_bytes());
-    bytes.extend(maximum.to_be_bytes());
-    bytes.push(path.len() as u8);
-    bytes.extend(links);
-    bytes
-}
+pub use second::making::{change, deliver, is_in_turn, leave, link, session};
 
 /// Document 01, "Examples": access is 100 and there is no maximum unless said.
 pub fn plain_session(number: u8, path: &[u8]) -> Vec<u8> {
     session(number, 100, 0, path)
-}
-
-/// Kind 3.
-pub fn leave(number: u8) -> Vec<u8> {
-    vec![3, number]
-}
-
-/// Kind 4.
-pub fn change(number: u8, maximum: u32) -> Vec<u8> {
-    [&[4, number][..], &maximum.to_be_bytes()].concat()
-}
-
-/// Kind 5.
-pub fn deliver(position: u16) -> Vec<u8> {
-    [&[5][..], &position.to_be_bytes()].concat()
 }
 
 pub fn refused(number: u64, place: u64) -> Option<Refused> {
@@ -57,15 +24,6 @@ pub fn calculated(input: &[u8]) -> Result<(Declared, Slices), Refused> {
     let [mut nums, mut dens, mut places] = [[0; 32]; 3];
     let declared = calculate(input, &mut nums, &mut dens, &mut places)?;
     Ok((declared, [nums, dens, places]))
-}
-
-/// Whether no earlier packet has the same session, hop and direction (01, "Added here").
-pub fn is_in_turn(packets: &[Packet], position: usize) -> bool {
-    let whereabouts = |packet: &Packet| (packet.session, packet.hop, packet.direction);
-    let here = whereabouts(&packets[position]);
-    packets[..position]
-        .iter()
-        .all(|earlier| whereabouts(earlier) != here)
 }
 
 /// A table that is run record by record, and the bytes of all the records that it took.
@@ -111,11 +69,10 @@ impl Machine {
     }
 
     /// The position of the first chosen packet that is in turn.
-    pub fn first(&self, chosen: impl Fn(&Packet) -> bool) -> Option<u16> {
+    pub fn first(&self, chosen: impl Fn(&Packet) -> bool) -> Option<usize> {
         let packets = &self.table.packets;
         (0..packets.len())
             .find(|&position| chosen(&packets[position]) && is_in_turn(packets, position))
-            .map(|position| position as u16)
     }
 
     /// Delivers chosen packets, the earliest sent first, until none is left.

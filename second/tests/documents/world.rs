@@ -1,20 +1,9 @@
 //! Random events over a few links and sessions: joins, changes, leaves, deliveries in and out of turn,
 //! and damaged bytes.
 
-use crate::common::{change, deliver, is_in_turn, leave, link, session, Random};
+use crate::common::{change, deliver, leave, link, session, Random};
 use second::machine::table::Packet;
-
-/// How the next packet to deliver is chosen, one way for a whole run.
-#[derive(Clone, Copy)]
-enum Turn {
-    Random,
-    EarliestSent,
-    LatestSent,
-    /// Packets of one session wait until there are no others.
-    Starving(u64),
-    /// Packets on one way wait until there are no others.
-    OneWayLast(u64),
-}
+use second::making::Turn;
 
 /// The links and sessions of a run, and what it has met.
 pub struct World {
@@ -81,23 +70,9 @@ impl World {
 
     // A position that is in turn, if there is a packet.
     pub fn delivery(&mut self, packets: &[Packet]) -> Option<Vec<u8>> {
-        let in_turn: Vec<usize> = (0..packets.len())
-            .filter(|&position| is_in_turn(packets, position))
-            .collect();
-        let waits = |&position: &usize| match self.turn {
-            Turn::Starving(session) => packets[position].session == session,
-            Turn::OneWayLast(direction) => packets[position].direction == direction,
-            _ => false,
-        };
-        let (last, first): (Vec<usize>, Vec<usize>) = in_turn.into_iter().partition(waits);
-        let choices = if first.is_empty() { last } else { first };
-        let position = match (self.turn, choices.as_slice()) {
-            (_, []) => return None,
-            (Turn::EarliestSent, choices) => choices[0],
-            (Turn::LatestSent, choices) => choices[choices.len() - 1],
-            (_, choices) => self.random.one_of(choices),
-        };
-        Some(deliver(position as u16))
+        let turn = self.turn;
+        turn.position(packets, |choices| self.random.one_of(choices))
+            .map(deliver)
     }
 
     // Any record with a few bytes overwritten, cut off, or followed by others.
@@ -125,7 +100,7 @@ impl World {
             12..=19 => self.change(),
             20..=25 => leave(self.random.one_of(&self.sessions)),
             26 => self.declaration(),
-            27..=29 => deliver(self.random.under(packets.len() + 2) as u16),
+            27..=29 => deliver(self.random.under(packets.len() + 2)),
             30..=33 => self.damaged(packets),
             _ => self.delivery(packets).unwrap_or_else(|| self.join()),
         }
