@@ -17,9 +17,10 @@ abbrev pub FairWhereTaken : List ℕ → List ℕ → List ℕ → List ℕ → 
 FairWhereTaken s report nums dens =
     getD report 0 0 ≡ 0 → Answer (problemOf (declarationsOf s .declared)) (λ t. frac (getD nums t 0) (getD dens t 0))
 
--- the number of `settled`: 1 under the five conditions, 0 where they do not hold, 14 where the table fails the test of refusal 14; no other
+-- the number of `settled`, of a table that passes the test of refusal 14: 1 under the five conditions, 0 where they do not hold; 14 of one that fails it;
+-- no other
 pub record SettledMeans (w : List ℕ) (n : ℕ) : Type 0 where
   pub number : (n ≡ 1) ⊎ ((n ≡ 0) ⊎ (n ≡ 14))
-  pub yes : n ≡ 1 → FiveConditions w
-  pub no : n ≡ 0 → FiveConditions w → ⊥
+  pub yes : n ≡ 1 → Passes w × FiveConditions w
+  pub no : n ≡ 0 → Passes w × (FiveConditions w → ⊥)
   pub refused : n ≡ 14 → Passes w → ⊥

@@ -4,11 +4,7 @@ use mathlib.Core.List.{List, [], _∷_}
 use Prim.Native.Nat.{ℕ}
 use Rattle.calculation.specs.Calculating as calculation
 use Rattle.calculation.specs.declared.Calculated.{Calculated}
-use Rattle.ends.specs.declared.Told.{Told}
-use Rattle.ends.specs.declared.Told.the-variants as told
 use Rattle.machine.specs.Machine as machine
-use Rattle.machine.specs.declared.Session.{Session}
-use Rattle.machine.specs.declared.Session.the-variants as session
 use Rattle.machine.specs.declared.SettledAnswer.{SettledAnswer}
 use Rattle.machine.specs.declared.SettledAnswer.the-variants as settled
 use Rattle.records.specs.Refusals.{numberOf}
@@ -37,13 +33,3 @@ abbrev pub settledNumberOf : SettledAnswer → ℕ
 settledNumberOf settled.Yes = 1
 settledNumberOf settled.No = 0
 settledNumberOf (settled.Refused r place) = numberOf r
-
--- an active session: 1, and the rate last told, or 0 and 0 where none was
-abbrev pub toldReportOf : Told → List ℕ
-toldReportOf told.Never = 1 ∷ 0 ∷ 0 ∷ []
-toldReportOf (told.Rate x) = 1 ∷ x .num ∷ x .den ∷ []
-
--- a session: whether it is active, and what it was last told
-abbrev pub sessionReportOf : Session → List ℕ
-sessionReportOf session.NotActive = 0 ∷ 0 ∷ 0 ∷ []
-sessionReportOf (session.Active x) = toldReportOf x

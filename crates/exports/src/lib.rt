@@ -2,10 +2,10 @@
 // They take every input: a table or a slice that is turned away is reported by its number and left as it was.
 ghost use mathlib.Core.Path.{_≡_};
 ghost use Rattle.calculation.specs.Calculating.{calculateOf};
-ghost use Rattle.machine.specs.Machine.{answerOf, machineOf, sessionOf};
+ghost use Rattle.machine.specs.Machine.{answerOf, machineOf, sessionOf, sessionReportOf, toldReportOf};
 ghost use Rattle.table.specs.Words.{countOf, emptyWords};
 ghost use Rattle.exports.specs.Meanings.{FairWhereTaken, SettledMeans};
-ghost use Rattle.exports.specs.Reports.{calculationReportOf, endReportOf, runReportOf, sessionReportOf, settledNumberOf, toldReportOf};
+ghost use Rattle.exports.specs.Reports.{calculationReportOf, endReportOf, runReportOf, settledNumberOf};
 use calculation::Calculated;
 use ends::Told;
 use machine::Session;

@@ -14,7 +14,7 @@ use Rattle.conditions.proofs.Means.{means-settled, settled-means}
 use Rattle.fractions.proofs.Cases.{chosen}
 use Rattle.handed.specs.Handed.{passes14Of}
 use Rattle.handed.specs.Passes.{Passes}
-use Rattle.handed.proofs.Passing.{means-passes}
+use Rattle.handed.proofs.Passing.{means-passes, passes-means}
 use Rattle.records.specs.declared.Refusal.the-variants as refusal
 use Rattle.records.specs.Run as records
 use Rattle.records.proofs.Somes.{clash}
@@ -69,8 +69,10 @@ module _ (w : List ℕ) (p : Bool) (is : p ≡ passes14Of w) where
     asked = chosen (passes14Of w) true answer (settled.Refused refusal.BadTable 0) (sym is ∙ h)
 
     pub settled-yes : q ≡ true → (settled.Yes ≡ answerOf w) × Means w settled.Yes
-    settled-yes k = (sym (asked ∙ chosen (settledOf w) true settled.Yes settled.No (sym is′ ∙ k)), settled-means w (sym is′ ∙ k))
+    settled-yes k = (sym (asked ∙ chosen (settledOf w) true settled.Yes settled.No (sym is′ ∙ k)), (passes-means w (sym is ∙ h), settled-means w (sym is′ ∙ k)))
 
     pub settled-no : q ≡ false → (settled.No ≡ answerOf w) × Means w settled.No
-    settled-no k =
-        (sym (asked ∙ chosen (settledOf w) false settled.Yes settled.No (sym is′ ∙ k)), λ g. clash (settledOf w) (means-settled w g) (sym is′ ∙ k))
+    settled-no k = (
+      sym (asked ∙ chosen (settledOf w) false settled.Yes settled.No (sym is′ ∙ k)),
+      (passes-means w (sym is ∙ h), λ g. clash (settledOf w) (means-settled w g) (sym is′ ∙ k)),
+    )

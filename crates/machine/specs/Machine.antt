@@ -1,13 +1,15 @@
 -- The machine's calls (01): a run of the records of an input on a handed table, and whether a table is settled. w are the words of the table.
 -- Assumes nothing: definitions.
 use mathlib.Core.Bool.{cond}
-use mathlib.Core.List.{List}
+use mathlib.Core.List.{List, [], _∷_}
 use mathlib.Core.Path.{_≡_}
 use Prim.Native.Nat.{ℕ}
 use lib.Dec.{ltb}
 use lib.ListN.{length}
 use Rattle.conditions.specs.Conditions.{FiveConditions}
 use Rattle.conditions.specs.Settled.{settledOf}
+use Rattle.ends.specs.declared.Told.{Told}
+use Rattle.ends.specs.declared.Told.the-variants as told
 use Rattle.events.specs.Events.{Step, eventOf, refusing}
 use Rattle.handed.specs.Handed.{passes14Of}
 use Rattle.handed.specs.Passes.{Passes}
@@ -34,6 +36,16 @@ use Rattle.machine.specs.declared.SettledAnswer.the-variants as settled
 -- a session as its owner sees it
 unfoldable pub sessionOf : List ℕ → ℕ → Session
 sessionOf w s = cond (ltb s sessionLimit) (cond (sourceOf w s .active) (session.Active (sourceOf w s .told)) session.NotActive) session.NotActive
+
+-- the values of an active session: 1, and the rate last told to it, or 0 and 0 where none was
+abbrev pub toldReportOf : Told → List ℕ
+toldReportOf told.Never = 1 ∷ 0 ∷ 0 ∷ []
+toldReportOf (told.Rate x) = 1 ∷ x .num ∷ x .den ∷ []
+
+-- the values of a session: whether it is active, and what it was last told
+abbrev pub sessionReportOf : Session → List ℕ
+sessionReportOf session.NotActive = 0 ∷ 0 ∷ 0 ∷ []
+sessionReportOf (session.Active x) = toldReportOf x
 
 -- the record at a place of the input s, and what it does
 abbrev pub readStep : List ℕ → List ℕ → Read → Step
@@ -87,8 +99,8 @@ saidOf n (end.Refused r place) = record { number = numberOf r; place = place; ta
 unfoldable pub answerOf : List ℕ → SettledAnswer
 answerOf w = cond (passes14Of w) (cond (settledOf w) settled.Yes settled.No) (settled.Refused refusal.BadTable 0)
 
--- what it means: yes exactly under the five conditions, and a refusal is 01's 14, at place 0
+-- what it means: of a table that passes the test, yes exactly under the five conditions; a refusal is 01's 14, at place 0, of one that does not
 abbrev pub Means : List ℕ → SettledAnswer → Type 0
-Means w settled.Yes = FiveConditions w
-Means w settled.No = FiveConditions w → ⊥
+Means w settled.Yes = Passes w × FiveConditions w
+Means w settled.No = Passes w × (FiveConditions w → ⊥)
 Means w (settled.Refused r place) = (numberOf r ≡ 14) × (place ≡ 0) × (Passes w → ⊥)

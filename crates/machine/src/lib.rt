@@ -10,7 +10,7 @@ ghost use Prim.Native.Nat.{ℕ, _≤_, _<_};
 ghost use lib.ListN.{length};
 ghost use Rattle.events.specs.Events.{ended};
 ghost use Rattle.table.specs.Words.{countOf, emptyWords};
-ghost use Rattle.machine.specs.Machine.{Means, answerOf, machineOf, nothingTaken, ranOf, runOf, saidOf, sessionOf, stepOf};
+ghost use Rattle.machine.specs.Machine.{Means, answerOf, machineOf, nothingTaken, ranOf, runOf, saidOf, sessionOf, sessionReportOf, stepOf};
 
 // How many records a run took, and how it ended.
 pub struct Ran {
@@ -47,7 +47,8 @@ pub fn in_flight(t: &[u64; 9153]) -> usize
 
 // A session and the rate last told to it. No session has a number over 31.
 pub fn session_at(t: &[u64; 9153], s: u32) -> Session
-    ensures { λ r. ⌜ r ≡ sessionOf (now (t .entry)) s ⌝ }
+    ensures exact { λ r. ⌜ r ≡ sessionOf (now (t .entry)) s ⌝ }
+    ensures said { λ r. ⌜ sessionReportOf r ≡ sessionReportOf (sessionOf (now (t .entry)) s) ⌝ }
 {
     if 32 <= s {
         return Session::NotActive;

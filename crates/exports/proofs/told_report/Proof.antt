@@ -1,7 +1,7 @@
 -- `exports::told_report` meets its contract.
 -- Assumes nothing.
 use mathlib.Core.Path.{ap, sym}
-use Rattle.exports.specs.Reports.{toldReportOf}
+use Rattle.machine.specs.Machine.{toldReportOf}
 use borrow.Author.Needs.{needs}
 use Rattle.exports.proofs.told_report.Statement.{statement}
 use Rattle.exports.proofs.told_report.Tie as tie
