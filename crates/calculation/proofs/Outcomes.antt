@@ -2,7 +2,7 @@
 -- Assumes nothing.
 use mathlib.Core.Bool.{_||_}
 use mathlib.Core.List.{List}
-use mathlib.Core.Path.{_≡_, ap, ap₂, subst, sym, _∙_}
+use mathlib.Core.Path.{_≡_, ap, ap₂, refl, subst, sym, _∙_}
 use Prim.Native.Nat.{ℕ, _≤_, _<_}
 use native.Mathlib.Omega.{arith}
 use borrow.Author.Tests.{le-ltb, lt-ltb, ltb-false}
@@ -25,7 +25,7 @@ use Rattle.records.specs.declared.Refusal.the-variants as refusal
 use Rattle.records.specs.Format.{Bytes}
 use Rattle.records.proofs.KeepsRanges.{declarations-in-range}
 use Rattle.filling.specs.Lines.{Ranges, problemOf}
-use Rattle.calculation.specs.Calculating.{Ordered, Outcome, afterRecords, calculateOf, doneOf, refusing, resultsOf}
+use Rattle.calculation.specs.Calculating.{Ordered, Outcome, afterRecords, calculateOf, doneOf, refusing, resultsOf, saidOf}
 use Rattle.calculation.specs.declared.Calculated.{Calculated}
 use Rattle.calculation.specs.declared.Calculated.the-variants as calculated
 use Rattle.calculation.proofs.Writing.{written-at}
@@ -55,6 +55,23 @@ module _ (s nums dens places : List ℕ) where
     pub by-records : length s ≤ 32768 → calculateOf s nums dens places ≡ afterRecords (declarationsOf s .end) (declarationsOf s .declared) nums dens places
     unfolding calculateOf
     by-records h = rw (le-ltb _ _ a, le-ltb _ _ b, le-ltb _ _ c, le-ltb _ _ h)
+
+-- "The calculation then writes nothing": where the number of the answer is a refusal's, the three slices are as they were
+abbrev Unwritten : List ℕ → List ℕ → List ℕ → Outcome → Type 0
+Unwritten nums dens places o = 0 < saidOf (o .answer) .number → (o .nums ≡ nums) × (o .dens ≡ dens) × (o .places ≡ places)
+
+after-unwritten : (e : End) (d : Declared) (nums dens places : List ℕ) → Unwritten nums dens places (afterRecords e d nums dens places)
+unfolding doneOf
+after-unwritten (end.Refused r place) d nums dens places h = (refl, refl, refl)
+after-unwritten end.Finished d nums dens places h = absurd (omega (arith, h))
+
+pub refused-writes-nothing : (s nums dens places : List ℕ) → Unwritten nums dens places (calculateOf s nums dens places)
+unfolding calculateOf
+refused-writes-nothing s nums dens places =
+    cases (Unwritten nums dens places) (ltb (length nums) 32 || (ltb (length dens) 32 || ltb (length places) 32)) _ _ (λ e h. (refl, refl, refl))
+    (λ e.
+    cases (Unwritten nums dens places) (ltb 32768 (length s)) _ _ (λ f h. (refl, refl, refl))
+    (λ f. after-unwritten (declarationsOf s .end) (declarationsOf s .declared) nums dens places))
 
 -- declarations of an input keep to the ranges that the calculation asks for
 pub ranges-of : (s : List ℕ) → Bytes s → Ranges (declarationsOf s .declared)
