@@ -1,6 +1,5 @@
 -- Laws of events. A crate above cites them as Rattle.events.proofs.NAME.
 mod Rooms
-mod Turns
 mod Needs
 mod Steps
 pub mod Refusals

@@ -17,7 +17,7 @@ use Rattle.table.specs.Words.{countOf, hopsOf, packetOf, placeOf, putHops, putP
 use Rattle.sessions.specs.Set.{sizeOf}
 use Rattle.tasks.specs.declared.Packet.{Packet}
 use Rattle.tasks.specs.Figure2.{linkStepOf}
-use Rattle.events.specs.Sending.{inTurnOf, noneOf, onPathOf, oneIf}
+use Rattle.sending.specs.Sending.{inTurnOf, noneOf, onPathOf, oneIf}
 use Rattle.events.specs.Events.{
   Step,
   arriveOf,

@@ -19,7 +19,7 @@ use Rattle.tasks.specs.declared.Onward.{Onward}
 use Rattle.tasks.specs.declared.Packet.{Packet}
 use Rattle.tasks.specs.Figure2.{linkStepOf}
 use Rattle.events.specs.Events.{Step, atDestinationOf, atLinkOf, atSourceOf, changeOf, joinOf, leaveOf, pathDeclaredIn, refusing, sourceSends, taking, unlessMany}
-use Rattle.events.specs.Sending.{noneOf, onPathOf, oneIf, sendAllOf, sendOnOf}
+use Rattle.sending.specs.Sending.{noneOf, onPathOf, oneIf, sendAllOf, sendOnOf}
 
 -- REFUSAL 13 ----------------------------------------------------------------------------------------------------------
 

@@ -22,7 +22,7 @@ use Rattle.sessions.specs.Set.{sizeOf}
 use Rattle.table.specs.Words.{countOf, hopsOf, linkOf, packetOf, placeOf, putHops, putLink, putPath, putPlace, putSource, removed, sourceOf, stopOf}
 use Rattle.tasks.specs.declared.Packet.{Packet}
 use Rattle.tasks.specs.Figure2.{linkStepOf}
-use Rattle.events.specs.Sending.{inTurnOf, noneOf, onPathOf, oneIf, sendAllOf, sendOnOf}
+use Rattle.sending.specs.Sending.{inTurnOf, noneOf, onPathOf, oneIf, sendAllOf, sendOnOf}
 
 -- whether a record is taken, and the words after it
 pub record Step : Type 0 where

@@ -1,3 +1,2 @@
 -- The definitions that the contracts of events cite.
-pub mod Sending
 pub mod Events

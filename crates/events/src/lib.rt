@@ -5,9 +5,7 @@ use links::Link;
 use records::Record;
 use records::Refusal;
 use records::Verdict;
-use tasks::Burst;
 use tasks::Did;
-use tasks::Kind;
 use tasks::Onward;
 use tasks::Packet;
 ghost use mathlib.Core.Bool.{not, true, _&&_};
@@ -19,171 +17,8 @@ ghost use Rattle.records.specs.Format.{RecordOk};
 ghost use Rattle.records.specs.Limits.{linkLimit, packetLimit};
 ghost use Rattle.table.specs.Values.{PacketInRange};
 ghost use Rattle.table.specs.Words.{countOf, packetOf, putHops, putPath, putPlace, putSource, removed};
-ghost use Rattle.events.specs.Sending.{addOnPath, burstKind, hopOf, inTurnOf, nextHop, noneOf, onPathOf, oneIf, sameLane, sameWay, sendAllOf, sendOnOf, sendUpOf, sentFrom};
+ghost use Rattle.sending.specs.Sending.{oneIf, sendAllOf, sendOnOf};
 ghost use Rattle.events.specs.Events.{arriveOf, atDestinationOf, atLinkOf, atSourceOf, changeOf, declareOf, declaredIn, deliverOf, ended, eventOf, joinOf, leaveOf, pathDeclaredIn, sourceSends};
-
-// SENDING -------------------------------------------------------------------------------------------------------------
-
-// The hop after h.
-fn next_hop(down: bool, h: u32) -> u32
-    requires { ⌜ h ≤ 9 ⌝ }
-    ensures { λ r. ⌜ r ≡ nextHop down h ⌝ }
-{
-    if down {
-        return h + 1;
-    }
-    if h == 0 {
-        return 0;
-    }
-    h - 1
-}
-
-// A packet of session s, sent from hop h.
-fn sent_from(s: u32, h: u32, kind: Kind) -> Packet
-    requires { ⌜ h ≤ 9 ⌝ }
-    ensures { λ r. ⌜ r ≡ sentFrom s h kind ⌝ }
-{
-    let down = tasks::goes_down(kind);
-    let hop = next_hop(down, h);
-    Packet {
-        session: s,
-        hop: hop,
-        down: down,
-        kind: kind,
-    }
-}
-
-// A task's onward packet, if it sends one.
-fn send_on(t: &mut [u64; 9153], s: u32, h: u32, on: Onward)
-    requires { ⌜ h ≤ 9 ⌝ }
-    ensures { λ r. ⌜ now (t .exit) ≡ sendOnOf (now (t .entry)) s h on ⌝ }
-{
-    match on {
-        Onward::Nothing => {}
-        Onward::Send(kind) => {
-            let p = sent_from(s, h, kind);
-            table::append(t, p);
-        }
-    }
-}
-
-// How many packets that is.
-fn one_if(on: Onward) -> usize
-    ensures { λ r. ⌜ (r ≡ oneIf on) × (r ≤ 1) ⌝ }
-{
-    match on {
-        Onward::Nothing => 0,
-        Onward::Send(kind) => 1,
-    }
-}
-
-// The kind of a burst.
-fn burst_kind(b: Burst) -> Kind
-    ensures { λ r. ⌜ r ≡ burstKind b ⌝ }
-{
-    match b {
-        Burst::Update => Kind::Update,
-        Burst::Bottleneck => Kind::Bottleneck,
-    }
-}
-
-// Link e sends one packet of a burst to session r.
-fn send_up(t: &mut [u64; 9153], e: usize, b: Burst, r: u32)
-    requires { ⌜ r < 32 ⌝ }
-    ensures { λ z. ⌜ now (t .exit) ≡ sendUpOf e b (now (t .entry)) r ⌝ }
-{
-    let h = table::hop_of(t, r as usize, e);
-    let kind = burst_kind(b);
-    let p = sent_from(r, h, kind);
-    table::append(t, p);
-}
-
-// And one to each session of a set.
-fn send_all(t: &mut [u64; 9153], e: usize, b: Burst, to: u32)
-    ensures { λ z. ⌜ now (t .exit) ≡ sendAllOf (now (t .entry)) e b to ⌝ }
-{
-    let mut left = to;
-    while left != 0 {
-        let r = sessions::next(left);
-        send_up(t, e, b, r);
-        left = sessions::cut(left, r);
-    }
-}
-
-// A set with session r, if link e is on its path.
-fn add_on_path(t: &[u64; 9153], e: usize, a: u32, r: u32) -> u32
-    requires { ⌜ r < 32 ⌝ }
-    ensures { λ z. ⌜ z ≡ addOnPath (now (t .entry)) e a r ⌝ }
-{
-    let h = table::hop_of(t, r as usize, e);
-    if h == 0 {
-        return a;
-    }
-    sessions::put(a, r)
-}
-
-// The sessions of a set whose path has link e.
-fn on_path(t: &[u64; 9153], e: usize, to: u32) -> u32
-    ensures { λ z. ⌜ z ≡ onPathOf (now (t .entry)) e to ⌝ }
-{
-    let mut found = 0u32;
-    let mut left = to;
-    while left != 0 {
-        let r = sessions::next(left);
-        found = add_on_path(t, e, found, r);
-        left = sessions::cut(left, r);
-    }
-    found
-}
-
-// Whether two packets go the same way.
-fn same_way(a: bool, b: bool) -> bool
-    ensures { λ r. ⌜ r ≡ sameWay a b ⌝ }
-{
-    if a { b } else { !b }
-}
-
-// Whether two packets have the same session, hop and direction.
-fn same_lane(p: Packet, q: Packet) -> bool
-    ensures { λ r. ⌜ r ≡ sameLane p q ⌝ }
-{
-    if p.session != q.session {
-        return false;
-    }
-    if p.hop != q.hop {
-        return false;
-    }
-    same_way(p.down, q.down)
-}
-
-// Whether no earlier packet has the session, hop and direction of the one at place i.
-fn in_turn(t: &[u64; 9153], i: usize) -> bool
-    requires { ⌜ i < 256 ⌝ }
-    ensures { λ r. ⌜ r ≡ inTurnOf (now (t .entry)) i ⌝ }
-{
-    let p = table::packet_at(t, i);
-    for j in 0..i {
-        let q = table::packet_at(t, j);
-        if same_lane(q, p) {
-            return false;
-        }
-    }
-    true
-}
-
-// Whether none of the first n packets is one of session s.
-fn none_of(t: &[u64; 9153], s: u32, n: usize) -> bool
-    requires { ⌜ n ≤ 256 ⌝ }
-    ensures { λ r. ⌜ r ≡ noneOf (now (t .entry)) s n ⌝ }
-{
-    for i in 0..n {
-        let p = table::packet_at(t, i);
-        if p.session == s {
-            return false;
-        }
-    }
-    true
-}
 
 // DELIVERY ------------------------------------------------------------------------------------------------------------
 
@@ -197,8 +32,8 @@ fn write_link(t: &mut [u64; 9153], i: usize, p: Packet, e: usize, d: Did, to: u3
     let on = d.on;
     table::remove(t, i);
     table::put_place(t, e, place);
-    send_all(t, e, burst, to);
-    send_on(t, p.session, p.hop, on);
+    sending::send_all(t, e, burst, to);
+    sending::send_on(t, p.session, p.hop, on);
 }
 
 // A packet reaches link e.
@@ -212,10 +47,10 @@ fn at_link(t: &mut [u64; 9153], i: usize, p: Packet, e: usize) -> Verdict
     if !d.fine {
         return Verdict::Refused(Refusal::TooFine);
     }
-    let to = on_path(t, e, d.to);
+    let to = sending::on_path(t, e, d.to);
     let on = d.on;
     let n = table::count(t);
-    let after = n - 1 + (sessions::size(to) as usize) + one_if(on);
+    let after = n - 1 + (sessions::size(to) as usize) + sending::one_if(on);
     if records::PACKETS < after {
         return Verdict::Refused(Refusal::TooManyPackets);
     }
@@ -232,7 +67,7 @@ fn write_source(t: &mut [u64; 9153], i: usize, s: u32, d: SourceDid)
     let on = d.on;
     table::remove(t, i);
     table::put_source(t, s as usize, source);
-    send_on(t, s, 0, on);
+    sending::send_on(t, s, 0, on);
 }
 
 // A packet reaches its source.
@@ -245,7 +80,7 @@ fn at_source(t: &mut [u64; 9153], i: usize, p: Packet) -> Verdict
     let d = ends::source_step(kind, z);
     let on = d.on;
     let n = table::count(t);
-    let after = n - 1 + one_if(on);
+    let after = n - 1 + sending::one_if(on);
     if records::PACKETS < after {
         return Verdict::Refused(Refusal::TooManyPackets);
     }
@@ -261,12 +96,12 @@ fn at_destination(t: &mut [u64; 9153], i: usize, p: Packet) -> Verdict
     let kind = p.kind;
     let on = ends::destination_step(kind);
     let n = table::count(t);
-    let after = n - 1 + one_if(on);
+    let after = n - 1 + sending::one_if(on);
     if records::PACKETS < after {
         return Verdict::Refused(Refusal::TooManyPackets);
     }
     table::remove(t, i);
-    send_on(t, p.session, p.hop, on);
+    sending::send_on(t, p.session, p.hop, on);
     Verdict::Taken
 }
 
@@ -294,7 +129,7 @@ fn deliver(t: &mut [u64; 9153], i: usize) -> Verdict
     if n <= i {
         return Verdict::Refused(Refusal::BadPosition);
     }
-    if !in_turn(t, i) {
+    if !sending::in_turn(t, i) {
         return Verdict::Refused(Refusal::BadPosition);
     }
     let p = table::packet_at(t, i);
@@ -358,7 +193,7 @@ fn has_room(t: &[u64; 9153], on: Onward) -> bool
     ensures { λ r. ⌜ r ≡ not (ltb packetLimit (countOf (now (t .entry)) + oneIf on)) ⌝ }
 {
     let n = table::count(t);
-    n + one_if(on) <= records::PACKETS
+    n + sending::one_if(on) <= records::PACKETS
 }
 
 // A session's source changes and sends.
@@ -372,7 +207,7 @@ fn source_sends(t: &mut [u64; 9153], s: u32, d: SourceDid) -> Verdict
         return Verdict::Refused(Refusal::TooManyPackets);
     }
     table::put_source(t, s as usize, source);
-    send_on(t, s, 0, on);
+    sending::send_on(t, s, 0, on);
     Verdict::Taken
 }
 
@@ -386,7 +221,7 @@ fn write_join(t: &mut [u64; 9153], s: &[u8], x: u32, n: usize, at: usize, d: Sou
     table::put_path(t, x as usize, s, at);
     table::put_hops(t, x as usize, n);
     table::put_source(t, x as usize, source);
-    send_on(t, x, 0, on);
+    sending::send_on(t, x, 0, on);
 }
 
 // A session joins.
@@ -410,7 +245,7 @@ fn join(
         return Verdict::Refused(Refusal::UndeclaredLink);
     }
     let count = table::count(t);
-    if !none_of(t, x, count) {
+    if !sending::none_of(t, x, count) {
         return Verdict::Refused(Refusal::StillLeaving);
     }
     let d = ends::joining(access, maximum);

@@ -8,7 +8,7 @@ use native.Mathlib.Omega.{arith}
 use Rattle.ends.specs.declared.Source.{Source}
 use Rattle.ends.specs.Figure4.{destinationStepOf}
 use Rattle.events.specs.Events.{deliverOf}
-use Rattle.events.specs.Sending.{inTurnOf}
+use Rattle.sending.specs.Sending.{inTurnOf}
 use Rattle.records.proofs.Somes.{clash}
 use Rattle.soundness.specs.LinkDid.{isJoin}
 use Rattle.table.specs.Words.{countOf, hopsOf, packetOf}

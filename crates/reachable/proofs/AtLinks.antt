@@ -7,7 +7,7 @@ use mathlib.Core.Path.{_≡_, ap, subst, sym, _∙_}
 use Prim.Native.Nat.{ℕ, _<_, _≤_}
 use native.Mathlib.Omega.{arith}
 use Rattle.ends.specs.declared.Source.{Source}
-use Rattle.events.specs.Sending.{burstKind, hopOf, inTurnOf}
+use Rattle.sending.specs.Sending.{burstKind, hopOf, inTurnOf}
 use Rattle.fractions.proofs.Cases.{order}
 use Rattle.links.specs.declared.Place.{Place}
 use Rattle.soundness.specs.LinkDid.{LinkDid, isJoin}

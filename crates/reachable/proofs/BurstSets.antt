@@ -9,7 +9,7 @@ use native.Mathlib.Omega.{arith}
 use borrow.Author.Tests.{eqb-false, ne-eqb}
 use lib.Dec.{eqb}
 use lib.ListN.{length}
-use Rattle.events.specs.Sending.{addOnPath, hopOf, onPathOf}
+use Rattle.sending.specs.Sending.{addOnPath, hopOf, onPathOf}
 use Rattle.fractions.proofs.Cases.{cases}
 use Rattle.sessions.specs.Set.{consIf, has, members, membersFrom, put, sizeOf}
 use Rattle.sessions.proofs.Counts.{ones-in}

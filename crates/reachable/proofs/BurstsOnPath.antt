@@ -8,7 +8,7 @@ use mathlib.Core.Path.{_≡_, ap}
 use Prim.Native.Nat.{ℕ, _<_, _≤_}
 use native.Mathlib.Omega.{arith}
 use lib.ListN.{length}
-use Rattle.events.specs.Sending.{hopOf, onPathOf}
+use Rattle.sending.specs.Sending.{hopOf, onPathOf}
 use Rattle.handed.specs.Passes.{Passes}
 use Rattle.soundness.proofs.Holding.{held-holds}
 use Rattle.soundness.specs.LinkDid.{LinkDid, isJoin}

@@ -5,7 +5,7 @@ use mathlib.Core.List.{List, _++_}
 use mathlib.Core.Path.{_≡_, refl, subst, sym, _∙_}
 use Prim.Native.Nat.{ℕ, _+_, _<_, _≤_}
 use native.Mathlib.Omega.{arith}
-use Rattle.events.specs.Sending.{sentFrom}
+use Rattle.sending.specs.Sending.{sentFrom}
 use Rattle.links.specs.declared.Place.{Place}
 use Rattle.links.specs.Links.{isIdle}
 use Rattle.records.proofs.Somes.{clash}

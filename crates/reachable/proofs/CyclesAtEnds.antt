@@ -7,7 +7,7 @@ use Prim.Native.Nat.{ℕ, _<_}
 use native.Mathlib.Omega.{arith}
 use Rattle.ends.specs.Figure4.{destinationStepOf}
 use Rattle.events.specs.Events.{deliverOf}
-use Rattle.events.specs.Sending.{sentFrom}
+use Rattle.sending.specs.Sending.{sentFrom}
 use Rattle.links.specs.declared.Place.{Place}
 use Rattle.records.proofs.Somes.{clash}
 use Rattle.soundness.specs.LinkDid.{GoesOn, isJoin}

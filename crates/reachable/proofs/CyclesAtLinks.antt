@@ -7,7 +7,7 @@ use mathlib.Core.Path.{_≡_, ap, refl, subst, sym, _∙_}
 use Prim.Native.Nat.{ℕ, _+_, _<_, _≤_}
 use native.Mathlib.Decide.{ℕ-discrete}
 use native.Mathlib.Omega.{arith}
-use Rattle.events.specs.Sending.{burstKind, hopOf, nextHop, sentFrom}
+use Rattle.sending.specs.Sending.{burstKind, hopOf, nextHop, sentFrom}
 use Rattle.links.specs.declared.Place.{Place}
 use Rattle.soundness.proofs.KeepsWaiting.{keeps-waiting}
 use Rattle.soundness.proofs.SendsCycle.{sends-for-cycle, waits-where-sent}

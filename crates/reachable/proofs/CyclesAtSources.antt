@@ -9,7 +9,7 @@ use native.Mathlib.Decide.{ℕ-discrete}
 use native.Mathlib.Omega.{arith}
 use Rattle.ends.specs.declared.Source.{Source}
 use Rattle.ends.specs.declared.SourceDid.{SourceDid}
-use Rattle.events.specs.Sending.{nextHop, sentFrom}
+use Rattle.sending.specs.Sending.{nextHop, sentFrom}
 use Rattle.links.specs.declared.Place.{Place}
 use Rattle.links.specs.Links.{isIdle}
 use Rattle.records.proofs.Somes.{clash, not-so}

@@ -5,7 +5,7 @@ use mathlib.Core.Path.{_≡_, ap, subst, sym, _∙_}
 use Prim.Native.Nat.{ℕ, _<_, _≤_}
 use Rattle.ends.specs.declared.Source.{Source}
 use Rattle.events.specs.Events.{declareOf}
-use Rattle.events.specs.Sending.{hopOf}
+use Rattle.sending.specs.Sending.{hopOf}
 use Rattle.links.specs.declared.Place.{Place}
 use Rattle.soundness.proofs.Holding.{nobody-held}
 use Rattle.soundness.specs.Sound.{Held}

@@ -11,7 +11,7 @@ use Rattle.ends.specs.declared.SourceDid.{SourceDid}
 use Rattle.ends.specs.Figure3.{sourceStepOf}
 use Rattle.ends.specs.Figure4.{destinationStepOf}
 use Rattle.events.specs.Events.{Step, arriveOf, atDestinationOf, atSourceOf, deliverOf}
-use Rattle.events.specs.Sending.{inTurnOf, oneIf}
+use Rattle.sending.specs.Sending.{inTurnOf, oneIf}
 use Rattle.fractions.proofs.Cases.{and-both, cases}
 use Rattle.records.proofs.Somes.{clash}
 use Rattle.table.specs.Words.{countOf, hopsOf, packetOf, removed, sourceOf}

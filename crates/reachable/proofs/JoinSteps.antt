@@ -12,7 +12,7 @@ use lib.Seq.{getD-drop, getD-take}
 use Rattle.ends.specs.declared.Source.{Source}
 use Rattle.ends.specs.Figure3.{D, joiningOf}
 use Rattle.events.specs.Events.{Step, declaredIn, joinOf, pathDeclaredIn, sourceSends}
-use Rattle.events.specs.Sending.{noneOf, sentFrom}
+use Rattle.sending.specs.Sending.{noneOf, sentFrom}
 use Rattle.fractions.proofs.Cases.{and-both, cases, not-true}
 use Rattle.fractions.proofs.Ranges.{whole-within}
 use Rattle.fractions.specs.declared.Rate.{Rate}

@@ -7,7 +7,7 @@ use Prim.Native.Nat.{ℕ, _+_, _<_, _≤_}
 use lib.ListN.{length}
 use Rattle.ends.specs.declared.Source.{Source}
 use Rattle.events.specs.Events.{joinOf}
-use Rattle.events.specs.Sending.{hopOf}
+use Rattle.sending.specs.Sending.{hopOf}
 use Rattle.fractions.specs.declared.Rate.{Rate}
 use Rattle.links.specs.declared.Place.{Place}
 use Rattle.records.proofs.Somes.{clash}

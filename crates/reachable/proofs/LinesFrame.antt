@@ -4,7 +4,7 @@ use mathlib.Core.Bool.{false}
 use mathlib.Core.List.{List, []}
 use mathlib.Core.Path.{_≡_, subst, sym, _∙_}
 use Prim.Native.Nat.{ℕ, _<_, _≤_}
-use Rattle.events.specs.Sending.{hopOf}
+use Rattle.sending.specs.Sending.{hopOf}
 use Rattle.links.specs.declared.Place.{Place}
 use Rattle.soundness.specs.Sound.{Held}
 use Rattle.table.specs.Words.{hopsOf, packetsOf, pathOf, placeOf}

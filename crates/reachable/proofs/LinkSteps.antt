@@ -7,7 +7,7 @@ use Prim.Native.Nat.{ℕ, _+_, _-_, _<_, _≤_}
 use native.Mathlib.Omega.{arith}
 use lib.ListN.{length, length-append}
 use Rattle.events.specs.Events.{Step, atLinkOf}
-use Rattle.events.specs.Sending.{burstKind, hopOf, onPathOf, oneIf, sendAllOf, sendOnOf}
+use Rattle.sending.specs.Sending.{burstKind, hopOf, onPathOf, oneIf, sendAllOf, sendOnOf}
 use Rattle.fractions.proofs.Cases.{cases}
 use Rattle.sessions.specs.Set.{members, sizeOf}
 use Rattle.soundness.proofs.EveryRule.{did-link}

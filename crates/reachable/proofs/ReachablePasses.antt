@@ -6,7 +6,7 @@ use mathlib.Core.Path.{_≡_, subst, sym, _∙_}
 use Prim.Native.Nat.{ℕ, _<_}
 use native.Mathlib.Omega.{arith}
 use borrow.Author.Tests.{ne-eqb}
-use Rattle.events.specs.Sending.{hopOf}
+use Rattle.sending.specs.Sending.{hopOf}
 use Rattle.handed.specs.Handed.{passes14Of}
 use Rattle.handed.specs.Passes.{LeaveToCome, Passes}
 use Rattle.handed.proofs.Passing.{means-passes}

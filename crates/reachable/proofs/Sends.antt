@@ -5,7 +5,7 @@ use mathlib.Core.Path.{_≡_, ap, ap₂, refl, sym, _∙_}
 use Prim.Native.Nat.{ℕ, suc, _+_, _<_, _≤_}
 use native.Mathlib.Omega.{arith}
 use lib.ListN.{length}
-use Rattle.events.specs.Sending.{burstKind, hopOf, oneIf, sendOnOf, sendUpOf, sentFrom}
+use Rattle.sending.specs.Sending.{burstKind, hopOf, oneIf, sendOnOf, sendUpOf, sentFrom}
 use Rattle.sessions.specs.Set.{walk}
 use Rattle.table.specs.Values.{PacketWithin}
 use Rattle.table.specs.Words.{appended, countOf, hopFrom, packetsOf, pathOf}

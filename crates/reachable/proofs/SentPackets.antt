@@ -6,7 +6,7 @@ use mathlib.Core.Logic.{_⊎_, inl, inr}
 use mathlib.Core.Path.{_≡_, ap, refl, subst, sym, _∙_}
 use Prim.Native.Nat.{ℕ, _+_, _-_, _<_, _≤_}
 use native.Mathlib.Omega.{arith}
-use Rattle.events.specs.Sending.{hopOf, nextHop, sentFrom}
+use Rattle.sending.specs.Sending.{hopOf, nextHop, sentFrom}
 use Rattle.records.proofs.Somes.{clash}
 use Rattle.soundness.specs.LinkDid.{GoesOn, isJoin}
 use Rattle.soundness.specs.ProbeCycle.{isResponse}

@@ -8,7 +8,7 @@ use native.Mathlib.Omega.{arith}
 use Rattle.ends.specs.declared.SourceDid.{SourceDid}
 use Rattle.ends.specs.Figure3.{changingOf, leavingOf}
 use Rattle.events.specs.Events.{Step, changeOf, leaveOf, sourceSends}
-use Rattle.events.specs.Sending.{oneIf, sentFrom}
+use Rattle.sending.specs.Sending.{oneIf, sentFrom}
 use Rattle.fractions.proofs.Cases.{cases}
 use Rattle.table.specs.Values.{SourceWithin}
 use Rattle.table.specs.Words.{countOf, hopsOf, packetsOf, putSource, sourceOf}

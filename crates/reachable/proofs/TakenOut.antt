@@ -4,7 +4,7 @@ use mathlib.Core.Bool.{false, true}
 use mathlib.Core.List.{List, [], _∷_, _++_}
 use mathlib.Core.Path.{_≡_, subst}
 use Prim.Native.Nat.{ℕ, _<_, _≤_}
-use Rattle.events.specs.Sending.{inTurnOf}
+use Rattle.sending.specs.Sending.{inTurnOf}
 use Rattle.soundness.specs.LinkDid.{isJoin}
 use Rattle.table.specs.Words.{countOf, packetOf, packetsOf}
 use Rattle.tasks.specs.declared.Packet.{Packet}

@@ -6,7 +6,7 @@ use mathlib.Core.List.{List, [], _∷_}
 use mathlib.Core.Path.{_≡_}
 use Prim.Native.Nat.{ℕ, _+_, _<_, _≤_}
 use lib.Dec.{eqb}
-use Rattle.events.specs.Sending.{hopOf}
+use Rattle.sending.specs.Sending.{hopOf}
 use Rattle.links.specs.Links.{isIdle}
 use Rattle.soundness.specs.LinkDid.{isJoin}
 use Rattle.soundness.specs.ProbeCycle.{Waiting, inCycle}

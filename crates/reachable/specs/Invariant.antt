@@ -8,7 +8,7 @@ use mathlib.Core.Logic.{_⊎_}
 use mathlib.Core.Path.{_≡_}
 use Prim.Native.Nat.{ℕ, _+_, _-_, _<_, _≤_}
 use lib.ListN.{length}
-use Rattle.events.specs.Sending.{hopOf}
+use Rattle.sending.specs.Sending.{hopOf}
 use Rattle.links.specs.Links.{B, isFine}
 use Rattle.soundness.specs.LinkDid.{isJoin}
 use Rattle.soundness.specs.Sound.{Held, Sound}

@@ -3,7 +3,7 @@
 use mathlib.Core.Path.{_≡_, ap, subst, sym, _∙_}
 use denote.Ref.{now}
 use Rattle.table.specs.Words.{removed}
-use Rattle.events.specs.Sending.{sendOnOf}
+use Rattle.sending.specs.Sending.{sendOnOf}
 use Rattle.events.proofs.Steps.{destination-done, destination-many}
 use borrow.Author.Needs.{needs}
 use Rattle.events.proofs.at_destination.Statement.{statement}

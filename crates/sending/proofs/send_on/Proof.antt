@@ -1,8 +1,8 @@
--- `events::send_on` meets its contract.
+-- `sending::send_on` meets its contract.
 -- Assumes nothing.
 use borrow.Author.Needs.{needs}
-use Rattle.events.proofs.send_on.Statement.{statement}
-use Rattle.events.proofs.send_on.Tie as tie
+use Rattle.sending.proofs.send_on.Statement.{statement}
+use Rattle.sending.proofs.send_on.Tie as tie
 
 enum-told : tie.Need-enum-told
 enum-told c = search needs

@@ -1,9 +1,9 @@
--- `events::next_hop` meets its contract.
+-- `sending::next_hop` meets its contract.
 -- Assumes nothing.
 use native.Mathlib.Omega.{arith}
 use borrow.Author.Needs.{needs}
-use Rattle.events.proofs.next_hop.Statement.{statement}
-use Rattle.events.proofs.next_hop.Tie as tie
+use Rattle.sending.proofs.next_hop.Statement.{statement}
+use Rattle.sending.proofs.next_hop.Tie as tie
 
 add-result : tie.Need-add-result
 add-result c = search needs

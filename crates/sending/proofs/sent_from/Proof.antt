@@ -1,8 +1,8 @@
--- `events::sent_from` meets its contract.
+-- `sending::sent_from` meets its contract.
 -- Assumes nothing.
 use borrow.Author.Needs.{needs}
-use Rattle.events.proofs.sent_from.Statement.{statement}
-use Rattle.events.proofs.sent_from.Tie as tie
+use Rattle.sending.proofs.sent_from.Statement.{statement}
+use Rattle.sending.proofs.sent_from.Tie as tie
 
 goes-down-requires : tie.Need-goes-down-requires
 goes-down-requires c κs = search needs

@@ -1,4 +1,4 @@
--- `events::in_turn` meets its contract: the first packet of the same lane settles it.
+-- `sending::in_turn` meets its contract: the first packet of the same lane settles it.
 -- Assumes nothing.
 use mathlib.Core.Path.{_≡_, ap, subst, sym, _∙_}
 use native.Mathlib.Omega.{arith}
@@ -10,11 +10,11 @@ use Prim.Native.Nat.{ℕ, _-_, _+_, _≤_}
 use lib.Dec.{eqb, ltb}
 use Rattle.table.specs.Words.{packetOf}
 use Rattle.tasks.specs.declared.Packet.{Packet}
-use Rattle.events.specs.Sending.{inTurnOf, sameLane}
-use Rattle.events.proofs.Turns.{turn-at}
+use Rattle.sending.specs.Sending.{inTurnOf, sameLane}
+use Rattle.sending.proofs.Turns.{turn-at}
 use borrow.Author.Needs.{needs}
-use Rattle.events.proofs.in_turn.Statement.{statement}
-use Rattle.events.proofs.in_turn.Tie as tie
+use Rattle.sending.proofs.in_turn.Statement.{statement}
+use Rattle.sending.proofs.in_turn.Tie as tie
 
 abbrev Inv-loop : tie.InvT-loop
 Inv-loop t i p j₀ j = (j ≤ i) × (p ≡ packetOf t i) × (all j (λ k. not (sameLane (packetOf t k) (packetOf t i))) ≡ true)

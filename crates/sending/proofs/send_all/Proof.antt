@@ -1,4 +1,4 @@
--- `events::send_all` meets its contract: what is left to send comes to the whole.
+-- `sending::send_all` meets its contract: what is left to send comes to the whole.
 -- Assumes nothing.
 use mathlib.Core.Path.{_≡_, refl, sym, ap, subst, _∙_}
 use native.Mathlib.Omega.{arith}
@@ -6,10 +6,10 @@ use Prim.Native.Nat.{_^_, _<_}
 use Rattle.sessions.specs.Set.{members, walk}
 use Rattle.sessions.proofs.Walks.{next-below, next-less, walk-end, walk-turn}
 use denote.Ref.{now}
-use Rattle.events.specs.Sending.{sendAllOf, sendUpOf}
+use Rattle.sending.specs.Sending.{sendAllOf, sendUpOf}
 use borrow.Author.Needs.{needs}
-use Rattle.events.proofs.send_all.Statement.{statement}
-use Rattle.events.proofs.send_all.Tie as tie
+use Rattle.sending.proofs.send_all.Statement.{statement}
+use Rattle.sending.proofs.send_all.Tie as tie
 
 abbrev Inv-loop : tie.InvT-loop
 Inv-loop t₀ e b to left₀ t left = (left < 2 ^ 32) × (walk (sendUpOf e b) t (members left) ≡ sendAllOf t₀ e b to)

@@ -1,9 +1,9 @@
--- `events::same_lane` meets its contract: the first difference settles it.
+-- `sending::same_lane` meets its contract: the first difference settles it.
 -- Assumes nothing.
 use borrow.Author.Tests.{eq-eqb, le-ltb, lt-ltb, ne-eqb}
 use borrow.Author.Needs.{needs}
-use Rattle.events.proofs.same_lane.Statement.{statement}
-use Rattle.events.proofs.same_lane.Tie as tie
+use Rattle.sending.proofs.same_lane.Statement.{statement}
+use Rattle.sending.proofs.same_lane.Tie as tie
 
 returns : tie.Need-returns
 returns c = simp (ne-eqb _ _ (c .if1 .taken))

@@ -1,14 +1,14 @@
--- `events::send_up` meets its contract.
+-- `sending::send_up` meets its contract.
 -- Assumes nothing.
 use mathlib.Core.Path.{_≡_, ap, subst, sym, _∙_}
 use native.Mathlib.Omega.{arith}
 use denote.Ref.{now}
-use Rattle.events.specs.Sending.{hopOf, sendUpOf}
+use Rattle.sending.specs.Sending.{hopOf, sendUpOf}
 use Prim.Native.Nat.{_≤_}
 use Rattle.table.proofs.Hops.{hop-of-most}
 use borrow.Author.Needs.{needs}
-use Rattle.events.proofs.send_up.Statement.{statement}
-use Rattle.events.proofs.send_up.Tie as tie
+use Rattle.sending.proofs.send_up.Statement.{statement}
+use Rattle.sending.proofs.send_up.Tie as tie
 
 hop-of-requires : tie.Need-hop-of-requires
 hop-of-requires c κs = search needs

@@ -1,9 +1,9 @@
--- `events::add_on_path` meets its contract.
+-- `sending::add_on_path` meets its contract.
 -- Assumes nothing.
 use borrow.Author.Tests.{eq-eqb, le-ltb, lt-ltb, ne-eqb}
 use borrow.Author.Needs.{needs}
-use Rattle.events.proofs.add_on_path.Statement.{statement}
-use Rattle.events.proofs.add_on_path.Tie as tie
+use Rattle.sending.proofs.add_on_path.Statement.{statement}
+use Rattle.sending.proofs.add_on_path.Tie as tie
 
 hop-of-requires : tie.Need-hop-of-requires
 hop-of-requires c κs = search needs

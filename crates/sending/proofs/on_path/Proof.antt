@@ -1,4 +1,4 @@
--- `events::on_path` meets its contract: what is found, and what is left to look at, come to the whole.
+-- `sending::on_path` meets its contract: what is found, and what is left to look at, come to the whole.
 -- Assumes nothing.
 use mathlib.Core.Path.{_≡_, refl, sym, ap, subst, _∙_}
 use native.Mathlib.Omega.{arith}
@@ -6,10 +6,10 @@ use Prim.Native.Nat.{_^_, _<_}
 use Rattle.sessions.specs.Set.{members, walk}
 use Rattle.sessions.proofs.Walks.{next-below, next-less, walk-end, walk-turn}
 use denote.Ref.{now}
-use Rattle.events.specs.Sending.{addOnPath, onPathOf}
+use Rattle.sending.specs.Sending.{addOnPath, onPathOf}
 use borrow.Author.Needs.{needs}
-use Rattle.events.proofs.on_path.Statement.{statement}
-use Rattle.events.proofs.on_path.Tie as tie
+use Rattle.sending.proofs.on_path.Statement.{statement}
+use Rattle.sending.proofs.on_path.Tie as tie
 
 abbrev Inv-loop : tie.InvT-loop
 Inv-loop t e to found₀ left₀ found left = (left < 2 ^ 32) × (walk (addOnPath t e) found (members left) ≡ onPathOf t e to)

@@ -1,4 +1,4 @@
--- `events::none_of` meets its contract: the first packet of the session settles it.
+-- `sending::none_of` meets its contract: the first packet of the session settles it.
 -- Assumes nothing.
 use mathlib.Core.Path.{_≡_, ap, subst, sym, _∙_}
 use native.Mathlib.Omega.{arith}
@@ -11,10 +11,10 @@ use Prim.Native.Nat.{ℕ, _-_, _+_, _≤_}
 use lib.Dec.{eqb, ltb}
 use Rattle.table.specs.Words.{packetOf}
 use Rattle.tasks.specs.declared.Packet.{Packet}
-use Rattle.events.specs.Sending.{noneOf}
+use Rattle.sending.specs.Sending.{noneOf}
 use borrow.Author.Needs.{needs}
-use Rattle.events.proofs.none_of.Statement.{statement}
-use Rattle.events.proofs.none_of.Tie as tie
+use Rattle.sending.proofs.none_of.Statement.{statement}
+use Rattle.sending.proofs.none_of.Tie as tie
 
 abbrev Inv-loop : tie.InvT-loop
 Inv-loop t s n i₀ i = (i ≤ n) × (noneOf t s i ≡ true)

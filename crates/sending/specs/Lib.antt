@@ -1,0 +1,2 @@
+-- The definitions that the contracts of sending cite.
+pub mod Sending
