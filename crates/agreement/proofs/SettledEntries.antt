@@ -14,7 +14,7 @@ use Rattle.handed.specs.Passes.{Passes}
 use Rattle.links.specs.Links.{holds, rateAt}
 use Rattle.table.specs.Values.{SourceWithin, ToldWithin}
 use Rattle.table.specs.Words.{hopFrom, pathOf, placeOf, sourceOf}
-use Rattle.table.proofs.FitsMeans.{entry-fits-means, source-fits-means}
+use Rattle.ranges.proofs.FitsMeans.{entry-fits-means, source-fits-means}
 use Rattle.reachable.proofs.Kept.{hop-on}
 use Rattle.table.proofs.InRange.{stop-below}
 use Rattle.agreement.specs.Needed.{Needed}

@@ -14,7 +14,7 @@ use Rattle.records.specs.Format.{all}
 use Rattle.records.proofs.Alls.{all-at, all-below, all-fails}
 use Rattle.records.proofs.Somes.{all-some, clash, implied, implies, not-so}
 use Rattle.sessions.specs.Set.{hasOf}
-use Rattle.table.specs.Ranges.{entryFits, linkFits, packetFits, sourceFits, standingFits}
+use Rattle.ranges.specs.Ranges.{entryFits, linkFits, packetFits, sourceFits, standingFits}
 use Rattle.table.specs.Words.{countOf, hopsOf, linkOf, packetOf, placeOf, sourceOf, stopOf}
 use Rattle.tasks.specs.Packets.{goesDown, isLeave}
 use Rattle.handed.specs.Handed.{apart, entriesInRange, entriesLive, entriesOnPath, entryInRange, entryLive, entryOnPath, hasJoined, heldAt, hopAt, hopOnPath, isPastC, leaveAhead, leaveToCome, linksInRange, packetOnItsWay, packetOnPath, packetsInRange, packetsOnPath, packetsOnTheirWay, pathDeclared, pathOnce, pathsDeclared, pathsOnce, rowApart, rowInRange, rowLive, rowOnPath, sessionApart, sourceInRange, sourcesInRange, stopDeclared, stopNew, sumFits, sumsFit}

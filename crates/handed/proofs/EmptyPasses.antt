@@ -8,7 +8,7 @@ use lib.Count.{onesIn}
 use Rattle.links.specs.declared.Total.the-variants as total
 use Rattle.links.specs.Links.{B, boundOf, holds, isFine}
 use Rattle.records.proofs.Somes.{clash}
-use Rattle.table.specs.Ranges.{countFits, linkFits, standingFits}
+use Rattle.ranges.specs.Ranges.{countFits, linkFits, standingFits}
 use Rattle.table.specs.Words.{countOf, emptyWords, hopsOf, placeOf, sourceOf}
 use Rattle.table.proofs.Empty.{empty-count, empty-hops, empty-word}
 use Rattle.table.proofs.EmptyLinks.{empty-R, empty-sum, none-active, none-held, none-in-F}

@@ -5,7 +5,7 @@ use mathlib.Core.List.{List}
 use mathlib.Core.Path.{ap₂, _≡_}
 use Prim.Native.Nat.{ℕ}
 use Rattle.fractions.proofs.Cases.{and-both}
-use Rattle.table.specs.Ranges.{countFits}
+use Rattle.ranges.specs.Ranges.{countFits}
 use Rattle.handed.specs.Handed.{apart, entriesInRange, entriesLive, entriesOnPath, fieldsInRange, heldAt, hopAt, linksInRange, linksPass, packetsInRange, packetsOnPath, packetsOnTheirWay, passes14Of, pathsDeclared, pathsOnce, pathsPass, sourcesInRange, sumsFit}
 use Rattle.handed.specs.Passes.{Passes}
 use Rattle.handed.proofs.Clauses.{apart-means, apart-test, declared-means, declared-test, down-means, entries-means, entries-test, fine-means, held-means, held-test, joined-means, known-means, links-means, links-test, live-means, live-test, on-path-test, once-means, once-test, packets-means, packets-test, sources-means, sources-test, standing-means, sums-test, up-means, way-means, way-test, within-means}

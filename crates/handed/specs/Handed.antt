@@ -12,7 +12,7 @@ use Rattle.links.specs.declared.Total.the-variants as total
 use Rattle.links.specs.Links.{B, isFine, sumOf}
 use Rattle.records.specs.Format.{all}
 use Rattle.sessions.specs.Set.{hasOf}
-use Rattle.table.specs.Ranges.{countFits, entryFits, linkFits, packetFits, sourceFits, standingFits}
+use Rattle.ranges.specs.Ranges.{countFits, entryFits, linkFits, packetFits, sourceFits, standingFits}
 use Rattle.table.specs.Words.{countOf, hopFrom, hopsOf, linkOf, packetOf, pathOf, placeOf, sourceOf, stopOf}
 use Rattle.tasks.specs.Packets.{goesDown, isLeave}
 

@@ -8,7 +8,7 @@ use Rattle.fractions.specs.declared.Rate.{Rate}
 use Rattle.links.specs.declared.Place.{Place}
 use Rattle.links.specs.declared.Total.the-variants as total
 use Rattle.links.specs.Links.{B, holds, inF, inR, isFine, sumOf}
-use Rattle.table.specs.Ranges.{countFits, entryFits, linkFits, packetFits, sourceFits, standingFits}
+use Rattle.ranges.specs.Ranges.{countFits, entryFits, linkFits, packetFits, sourceFits, standingFits}
 use Rattle.table.specs.Words.{countOf, hopFrom, hopsOf, linkOf, packetOf, pathOf, placeOf, sourceOf, stopOf}
 use Rattle.tasks.specs.Packets.{goesDown, isLeave}
 

@@ -27,7 +27,7 @@ fn links_in_range(t: &[u64; 9153]) -> bool
     ensures { λ r. ⌜ r ≡ linksInRange (now (t .entry)) ⌝ }
 {
     for e in 0..64usize {
-        if !table::link_fits(t, e) {
+        if !ranges::link_fits(t, e) {
             return false;
         }
     }
@@ -41,7 +41,7 @@ fn entry_in_range(t: &[u64; 9153], e: usize, s: usize) -> bool
     if !held_at(t, e, s) {
         return true;
     }
-    table::entry_fits(t, e, s)
+    ranges::entry_fits(t, e, s)
 }
 
 fn row_in_range(t: &[u64; 9153], e: usize) -> bool
@@ -72,12 +72,12 @@ fn source_in_range(t: &[u64; 9153], s: usize) -> bool
     requires { ⌜ s < 32 ⌝ }
     ensures { λ r. ⌜ r ≡ sourceInRange (now (t .entry)) s ⌝ }
 {
-    if !table::standing_fits(t, s) {
+    if !ranges::standing_fits(t, s) {
         return false;
     }
     let n = table::hops_at(t, s);
     if 0 < n {
-        return table::source_fits(t, s);
+        return ranges::source_fits(t, s);
     }
     let z = table::source_at(t, s);
     !z.active
@@ -99,7 +99,7 @@ fn packets_in_range(t: &[u64; 9153]) -> bool
 {
     let n = table::count(t);
     for i in 0..n {
-        if !table::packet_fits(t, i) {
+        if !ranges::packet_fits(t, i) {
             return false;
         }
     }
@@ -109,7 +109,7 @@ fn packets_in_range(t: &[u64; 9153]) -> bool
 fn fields_in_range(t: &[u64; 9153]) -> bool
     ensures { λ r. ⌜ r ≡ fieldsInRange (now (t .entry)) ⌝ }
 {
-    if !table::count_fits(t) {
+    if !ranges::count_fits(t) {
         return false;
     }
     if !links_in_range(t) {

@@ -14,12 +14,12 @@ use Rattle.links.specs.declared.Link.{Link}
 use Rattle.links.specs.declared.Place.{Place}
 use Rattle.soundness.proofs.Holding.{nobody-held}
 use Rattle.soundness.specs.Sound.{Held, Sound}
-use Rattle.table.specs.Ranges.{flagsFit, numbersFit, pathFits, ratesFit, sourceFits, standingFits}
+use Rattle.ranges.specs.Ranges.{flagsFit, numbersFit, pathFits, ratesFit, sourceFits, standingFits}
 use Rattle.table.specs.Values.{LinkInRange, PacketWithin, PlaceInRange, SourceWithin}
 use Rattle.table.specs.Words.{appended, blockAt, countOf, hopsOf, linkOf, placeOf, putHops, putLink, putPath, putPlace, putSource, removed}
-use Rattle.table.proofs.FitsLinks.{entry-fits-place, link-fits-back, link-fits-place}
-use Rattle.table.proofs.FitsPackets.{count-fits-appended, count-fits-removed, packet-fits-appended, packet-fits-appended-last, packet-fits-removed-above, packet-fits-removed-below}
-use Rattle.table.proofs.FitsSources.{path-fits-back-hops-last, source-fits-back, standing-fits-agree, standing-fits-hops, standing-fits-source}
+use Rattle.ranges.proofs.FitsLinks.{entry-fits-place, link-fits-back, link-fits-place}
+use Rattle.ranges.proofs.FitsPackets.{count-fits-appended, count-fits-removed, packet-fits-appended, packet-fits-appended-last, packet-fits-removed-above, packet-fits-removed-below}
+use Rattle.ranges.proofs.FitsSources.{path-fits-back-hops-last, source-fits-back, standing-fits-agree, standing-fits-hops, standing-fits-source}
 use Rattle.table.proofs.InRange.{count-most}
 use Rattle.table.proofs.Packets.{count-appended, count-removed}
 use Rattle.table.proofs.Places.{appended-off, length-appended, length-put-hops, length-put-link, length-put-path, length-put-place, length-put-source, length-removed, put-hops-off, put-link-off, put-path-off, put-place-off, put-source-off, removed-off}

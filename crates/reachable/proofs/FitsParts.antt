@@ -12,11 +12,11 @@ use lib.ListN.{getD, length}
 use Rattle.fractions.proofs.Cases.{order}
 use Rattle.links.specs.declared.Place.{Place}
 use Rattle.soundness.specs.Sound.{Held}
-use Rattle.table.specs.Ranges.{countFits, entryFits, linkFits, packetFits, sourceFits, standingFits}
+use Rattle.ranges.specs.Ranges.{countFits, entryFits, linkFits, packetFits, sourceFits, standingFits}
 use Rattle.table.specs.Words.{countOf, hopsOf, placeOf}
-use Rattle.table.proofs.FitsLinks.{entry-fits-agree, link-fits-agree}
-use Rattle.table.proofs.FitsPackets.{count-fits-agree, packet-fits-agree}
-use Rattle.table.proofs.FitsSources.{source-fits-agree, standing-fits-agree}
+use Rattle.ranges.proofs.FitsLinks.{entry-fits-agree, link-fits-agree}
+use Rattle.ranges.proofs.FitsPackets.{count-fits-agree, packet-fits-agree}
+use Rattle.ranges.proofs.FitsSources.{source-fits-agree, standing-fits-agree}
 use Rattle.table.proofs.InRange.{count-most}
 use Rattle.table.proofs.Places.{count-agree, hops-agree, link-agree, row-agree}
 use Rattle.table.proofs.Store.{Agree, Off}

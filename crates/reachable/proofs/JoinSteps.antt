@@ -24,7 +24,7 @@ use Rattle.records.specs.Format.{differ, isNew, linksOk, pathOk, restOk}
 use Rattle.soundness.specs.Sound.{Held}
 use Rattle.table.specs.Values.{SourceWithin}
 use Rattle.table.specs.Words.{countOf, hopsOf, linkOf, packetOf, packetsOf, pathOf, placeOf, putHops, putPath, putSource, sourceOf, stopOf}
-use Rattle.table.proofs.FitsMeans.{source-within}
+use Rattle.ranges.proofs.FitsMeans.{source-within}
 use Rattle.table.proofs.InRange.{path-stop}
 use Rattle.table.proofs.Packets.{length-packets, packets-at}
 use Rattle.table.proofs.Places.{length-put-hops, length-put-path}

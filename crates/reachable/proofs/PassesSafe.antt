@@ -21,7 +21,7 @@ use Rattle.soundness.proofs.Holding.{held-holds, is-out}
 use Rattle.soundness.proofs.Weights.{members-within}
 use Rattle.table.specs.Words.{countOf, emptyWords, packetOf, packetsOf, placeOf}
 use Rattle.table.proofs.Empty.{empty-length, empty-packets}
-use Rattle.table.proofs.FitsMeans.{entry-fits-means, packet-fits-means}
+use Rattle.ranges.proofs.FitsMeans.{entry-fits-means, packet-fits-means}
 use Rattle.table.proofs.InRange.{place-in-range, row-rates}
 use Rattle.table.proofs.Packets.{length-packets, packets-at}
 use Rattle.table.proofs.Workables.{place-workable}

@@ -9,7 +9,7 @@ use Rattle.sending.specs.Sending.{burstKind, hopOf, oneIf, sendOnOf, sendUpOf, 
 use Rattle.sessions.specs.Set.{walk}
 use Rattle.table.specs.Values.{PacketWithin}
 use Rattle.table.specs.Words.{appended, countOf, hopFrom, packetsOf, pathOf}
-use Rattle.table.proofs.FitsMeans.{packet-within}
+use Rattle.ranges.proofs.FitsMeans.{packet-within}
 use Rattle.table.proofs.Packets.{count-appended, packets-appended}
 use Rattle.table.proofs.Unchanged.{path-after-appended}
 use Rattle.tasks.specs.declared.Burst.{Burst}

@@ -8,7 +8,7 @@ use lib.ListN.{length}
 use Rattle.ends.specs.declared.Source.{Source}
 use Rattle.table.specs.Values.{SourceWithin}
 use Rattle.table.specs.Words.{countOf, hopsOf, packetsOf, pathOf, placeOf, putSource, sourceOf}
-use Rattle.table.proofs.FitsMeans.{source-fits-means, source-within}
+use Rattle.ranges.proofs.FitsMeans.{source-fits-means, source-within}
 use Rattle.table.proofs.ReadBack.{source-back}
 use Rattle.table.proofs.Unchanged.{count-after-source, link-after-source, packets-after-source, path-after-source, row-after-source, source-other}
 use Rattle.tasks.specs.declared.Packet.{Packet}

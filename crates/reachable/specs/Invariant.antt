@@ -12,7 +12,7 @@ use Rattle.sending.specs.Sending.{hopOf}
 use Rattle.links.specs.Links.{B, isFine}
 use Rattle.soundness.specs.LinkDid.{isJoin}
 use Rattle.soundness.specs.Sound.{Held, Sound}
-use Rattle.table.specs.Ranges.{countFits, entryFits, linkFits, packetFits, sourceFits, standingFits}
+use Rattle.ranges.specs.Ranges.{countFits, entryFits, linkFits, packetFits, sourceFits, standingFits}
 use Rattle.table.specs.Values.{PacketWithin}
 use Rattle.table.specs.Words.{countOf, hopsOf, linkOf, packetsOf, placeOf, sourceOf, stopOf}
 use Rattle.tasks.specs.declared.Packet.{Packet}

@@ -11,7 +11,3 @@ pub mod Unchanged
 pub mod Packets
 pub mod Empty
 pub mod EmptyLinks
-pub mod FitsMeans
-pub mod FitsLinks
-pub mod FitsSources
-pub mod FitsPackets

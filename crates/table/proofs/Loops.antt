@@ -1,18 +1,16 @@
 -- One law for each turn of a loop over the words, and one for its end.
 -- Assumes nothing.
-use mathlib.Core.Bool.{false, true}
 use mathlib.Core.List.{List, append-nil}
 use mathlib.Core.Path.{_≡_, ap, refl, sym, _∙_}
 use Prim.Native.Nat.{ℕ, zero, suc, _+_, _-_, _*_, _≤_, _<_}
 use native.Mathlib.Nat.{zero-add}
 use native.Mathlib.Numerals.{add-one}
 use native.Mathlib.Omega.{arith}
-use borrow.Author.Tests.{eq-eqb, le-leb, lt-leb, ne-eqb}
+use borrow.Author.Tests.{eq-eqb, ne-eqb}
 use lib.ListN.{drop, drop-of-length-le, getD, length, set}
 use lib.Seq.{drop-cons, paste, paste-suc, take-all}
 use Rattle.links.specs.declared.Entry.{Entry}
 use Rattle.table.specs.Words.{entriesFrom, entryOf, hopFrom, movedUp, noEntry, putEntry, stopOf, stopsFrom, storeEntries}
-use Rattle.table.specs.Ranges.{stopsFit}
 
 -- A ROW READ ----------------------------------------------------------------------------------------------------------
 
@@ -104,28 +102,5 @@ hop-found w s n h i e l q =
 pub hop-none : (w : List ℕ) (s n h i e : ℕ) → n ≤ i → hopFrom h (stopsFrom (n - i) w s i) e ≡ 0
 unfolding hopFrom stopsFrom
 hop-none w s n h i e l =
-    let p : n - i ≡ 0 = omega arith in
-    rw p
-
--- A PATH TESTED -------------------------------------------------------------------------------------------------------
-
-pub stops-on : (w : List ℕ) (s n i : ℕ)
-    → i < n
-    → getD w (6336 + s * 24 + 16 + i) 0 ≤ 63
-    → stopsFit (n - i) w s i ≡ stopsFit (n - (i + 1)) w s (i + 1)
-unfolding stopsFit
-stops-on w s n i l q =
-    let p : n - i ≡ suc (n - (i + 1)) = omega arith in
-    rw (p, le-leb (getD w (6336 + s * 24 + 16 + i) 0) 63 q)
-
-pub stops-out : (w : List ℕ) (s n i : ℕ) → i < n → 63 < getD w (6336 + s * 24 + 16 + i) 0 → stopsFit (n - i) w s i ≡ false
-unfolding stopsFit
-stops-out w s n i l q =
-    let p : n - i ≡ suc (n - (i + 1)) = omega arith in
-    rw (p, lt-leb (getD w (6336 + s * 24 + 16 + i) 0) 63 q)
-
-pub stops-end : (w : List ℕ) (s n i : ℕ) → n ≤ i → stopsFit (n - i) w s i ≡ true
-unfolding stopsFit
-stops-end w s n i l =
     let p : n - i ≡ 0 = omega arith in
     rw p

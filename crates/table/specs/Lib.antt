@@ -1,4 +1,3 @@
 -- The definitions that the contracts and laws of table cite.
 pub mod Words
-pub mod Ranges
 pub mod Values

@@ -8,7 +8,7 @@ use Rattle.fractions.proofs.Cases.{not-false, not-true}
 use Rattle.records.specs.Format.{all}
 use Rattle.records.proofs.Alls.{all-fails, all-next, all-none}
 use Rattle.handed.specs.Handed.{linksInRange}
-use Rattle.table.specs.Ranges.{linkFits}
+use Rattle.ranges.specs.Ranges.{linkFits}
 use borrow.Author.Needs.{needs}
 use Rattle.handed.proofs.links_in_range.Statement.{statement}
 use Rattle.handed.proofs.links_in_range.Tie as tie

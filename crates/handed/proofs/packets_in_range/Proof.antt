@@ -8,7 +8,7 @@ use Rattle.fractions.proofs.Cases.{not-false, not-true}
 use Rattle.records.specs.Format.{all}
 use Rattle.records.proofs.Alls.{all-fails, all-next, all-none}
 use Rattle.handed.specs.Handed.{packetsInRange}
-use Rattle.table.specs.Ranges.{packetFits}
+use Rattle.ranges.specs.Ranges.{packetFits}
 use Rattle.table.proofs.InRange.{count-most}
 use borrow.Author.Needs.{needs}
 use Rattle.handed.proofs.packets_in_range.Statement.{statement}

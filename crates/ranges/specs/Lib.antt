@@ -1,0 +1,2 @@
+-- The definitions that the contracts of ranges cite.
+pub mod Ranges
