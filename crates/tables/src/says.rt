@@ -1,8 +1,9 @@
 // What the machine says of a table: `taken N` or `taken N refused R at P`, and where it is asked `settled yes`, `settled no` or
 // `settled refused R at P`. A table that was to stay and did not is `changed`.
-use super::words;
+use ends::Told;
 use libc::STDOUT_FILENO;
 use machine::Ran;
+use machine::Session;
 use machine::SettledAnswer;
 use records::End;
 use records::Refusal;
@@ -11,27 +12,20 @@ pub fn text(s: &[u8]) {
     io::write_all(STDOUT_FILENO, s);
 }
 
-pub fn decimal(n: u64) {
+// A text and a number.
+pub fn number(name: &[u8], n: u64) {
+    io::write_all(STDOUT_FILENO, name);
     io::print_decimal(STDOUT_FILENO, n);
 }
 
-pub fn rate(num: u64, den: u64) {
-    decimal(num);
-    text(b"/");
-    decimal(den);
-}
-
 fn refusal(r: Refusal, place: usize) {
-    text(b" refused ");
-    decimal(records::number(r));
-    text(b" at ");
-    decimal(place as u64);
+    number(b" refused ", records::number(r));
+    number(b" at ", place as u64);
 }
 
 // How many records a run took, and how it ended.
 pub fn ran(x: Ran) {
-    text(b": taken ");
-    decimal(x.taken as u64);
+    number(b": taken ", x.taken as u64);
     let end = x.end;
     match end {
         End::Finished => {}
@@ -39,55 +33,51 @@ pub fn ran(x: Ran) {
     }
 }
 
-// How many packets are in flight.
-pub fn packets(t: &[u64; 9153]) {
-    text(b" packets ");
-    decimal(machine::in_flight(t) as u64);
-}
-
 // Whether the table is settled.
 pub fn settled(t: &[u64; 9153]) {
-    text(b" settled");
     let answer = machine::settled(t);
     match answer {
-        SettledAnswer::Yes => text(b" yes"),
-        SettledAnswer::No => text(b" no"),
-        SettledAnswer::Refused { refusal: r, place } => refusal(r, place),
+        SettledAnswer::Yes => text(b" settled yes"),
+        SettledAnswer::No => text(b" settled no"),
+        SettledAnswer::Refused { refusal: r, place } => {
+            text(b" settled");
+            refusal(r, place);
+        }
     }
+}
+
+// The rate last told.
+pub fn told(x: Session) {
+    match x {
+        Session::NotActive => text(b" not active"),
+        Session::Active(y) => match y {
+            Told::Never => text(b" none"),
+            Told::Rate(z) => {
+                number(b" rate ", z.num);
+                number(b"/", z.den);
+            }
+        },
+    }
+}
+
+// A text and one word of the table; answers whether there is such a word.
+pub fn word(t: &[u64; 9153], at: usize, name: &[u8]) -> bool {
+    if 9153 <= at {
+        return false;
+    }
+    text(b" ");
+    text(name);
+    number(b" ", t[at]);
+    true
 }
 
 // The line ends, with `changed` where the table is another than it was to be.
 pub fn same(t: &[u64; 9153], expected: &[u64; 9153]) {
-    if !words::is_same(t, expected) {
-        text(b" changed");
+    for i in 0..9153usize {
+        if t[i] != expected[i] {
+            text(b" changed\n");
+            return;
+        }
     }
     text(b"\n");
-}
-
-// A run on a table that is to stay.
-pub fn kept(t: &mut [u64; 9153], input: &[u8]) {
-    let mut before = [0u64; 9153];
-    words::copy(&mut before, t);
-    let x = machine::run(t, input);
-    ran(x);
-    same(t, &before);
-}
-
-// A table that is handed in, with no records: the run, whether it is settled, and that it stays.
-pub fn handed(t: &mut [u64; 9153]) {
-    let nothing = [0u8; 1];
-    let mut before = [0u64; 9153];
-    words::copy(&mut before, t);
-    let x = machine::run(t, &nothing[..0]);
-    ran(x);
-    settled(t);
-    same(t, &before);
-}
-
-// The same of this table with one word changed, which is then put back.
-pub fn with(t: &mut [u64; 9153], at: usize, v: u64) {
-    let old = words::get(t, at);
-    words::put(t, at, v);
-    handed(t);
-    words::put(t, at, old);
 }
