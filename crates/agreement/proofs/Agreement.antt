@@ -18,10 +18,10 @@ use Rattle.machine.specs.declared.SettledAnswer.the-variants as settled
 use Rattle.machine.specs.Machine.{answerOf, machineOf, sessionOf}
 use Rattle.reachable.specs.Reachable.{Reachable, empty, ran}
 use Rattle.reachable.proofs.ReachablePasses.{reachable-passes}
-use Rattle.records.specs.Declaring.{declarationsOf}
-use Rattle.records.specs.declared.Declared.{Declared}
 use Rattle.records.specs.declared.Refusal.the-variants as refusal
 use Rattle.records.specs.Format.{Bytes}
+use Rattle.declarations.specs.Declaring.{declarationsOf}
+use Rattle.declarations.specs.declared.Declared.{Declared}
 use Rattle.table.specs.Words.{emptyWords, sourceOf}
 use Rattle.agreement.specs.Agrees.{Agrees, HasRate, calculatedRate, writtenRate}
 use Rattle.agreement.specs.Lines.{Declares, declarationsIn}

@@ -16,8 +16,8 @@ use Rattle.fairness.specs.Answer.{Answer, figure1Rate}
 use Rattle.filling.specs.Lines.{problemOf}
 use Rattle.fractions.specs.declared.Rate.{Rate}
 use Rattle.fractions.specs.Fraction.{frac}
-use Rattle.records.specs.Declaring.{declarationsOf}
-use Rattle.records.specs.declared.Declared.{Declared}
+use Rattle.declarations.specs.Declaring.{declarationsOf}
+use Rattle.declarations.specs.declared.Declared.{Declared}
 use Rattle.sessions.specs.Set.{has, hasOf}
 use Rattle.table.specs.Words.{sourceOf}
 use Rattle.agreement.specs.Agrees.{calculatedRate, writtenRate}

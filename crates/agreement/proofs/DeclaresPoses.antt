@@ -11,8 +11,8 @@ use Rattle.conditions.specs.Conditions.{Active, OnPath}
 use Rattle.fairness.proofs.Anys.{any-at, any-found}
 use Rattle.filling.specs.Lines.{crossesOf, problemOf}
 use Rattle.fractions.proofs.Cases.{cases, eqb-T}
-use Rattle.records.specs.Declaring.{ownLimitOf}
-use Rattle.records.specs.declared.Declared.{Declared}
+use Rattle.declarations.specs.Declaring.{ownLimitOf}
+use Rattle.declarations.specs.declared.Declared.{Declared}
 use Rattle.table.proofs.InRange.{hops-most}
 use Rattle.table.specs.Words.{hopsOf}
 use Rattle.agreement.specs.Lines.{Declares, pathByte}

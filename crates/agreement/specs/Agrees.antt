@@ -11,7 +11,7 @@ use Rattle.ends.specs.declared.Told.the-variants as told
 use Rattle.fractions.specs.declared.Rate.{Rate}
 use Rattle.fractions.specs.Fraction.{frac}
 use Rattle.links.specs.Links.{holds, rateAt}
-use Rattle.records.specs.declared.Declared.{Declared}
+use Rattle.declarations.specs.declared.Declared.{Declared}
 use Rattle.table.specs.Words.{placeOf, sourceOf}
 use Rattle.agreement.specs.Lines.{declarationsIn}
 

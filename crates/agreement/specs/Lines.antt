@@ -8,7 +8,7 @@ use lib.Dec.{ltb}
 use lib.ListN.{getD}
 use Rattle.conditions.specs.Conditions.{Active}
 use Rattle.fairness.specs.Figure1.{values}
-use Rattle.records.specs.declared.Declared.{Declared}
+use Rattle.declarations.specs.declared.Declared.{Declared}
 use Rattle.sessions.specs.Set.{hasOf, put}
 use Rattle.table.specs.Words.{hopsOf, linkOf, sourceOf, stopOf}
 

@@ -16,7 +16,7 @@ use Rattle.fairness.proofs.Anys.{any-found}
 use Rattle.fairness.proofs.Figure1IsFair.{figure1-fair}
 use Rattle.fairness.proofs.Running.{values-at}
 use Rattle.fairness.proofs.EverySessionIsRestricted.{max-min-restricted}
-use Rattle.records.specs.declared.Declared.{Declared}
+use Rattle.declarations.specs.declared.Declared.{Declared}
 use Rattle.filling.specs.Lines.{problemOf}
 use Rattle.calculation.specs.Calculating.{resultsOf}
 use Rattle.calculation.proofs.SameResults.{active}

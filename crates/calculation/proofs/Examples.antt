@@ -10,9 +10,9 @@ use Rattle.sessions.specs.Set.{cut, has, membersFrom, put, walk}
 use Rattle.fairness.specs.Figure1.{any, begin, chosen, counts, figure1, fixAt, leftAt, lefts, loadAt, net, oneRound, openAll, openAt, roundOn, rounds, smaller, smallest, values}
 use Rattle.fairness.specs.MaxMin.{used}
 use Rattle.fairness.specs.Sum.{sum}
-use Rattle.records.specs.Declaring.{copied, declarationsOf, declareOf, judgeOf, noneDeclared, ownLimitOf, pathDeclared}
 use Rattle.records.specs.Format.{all, be2, be4, bodyAt, bodyOf, changeAt, deliverAt, differ, isNew, leaveAt, linkAt, linksOk, pathOk, readAt, restOk, sessionAt, sizeAt}
 use Rattle.records.specs.Run.{runFrom}
+use Rattle.declarations.specs.Declaring.{copied, declarationsOf, declareOf, judgeOf, noneDeclared, ownLimitOf, pathDeclared}
 use Rattle.filling.specs.Lines.{problemOf}
 use Rattle.calculation.specs.Binding.{bindingOf, firstOf, own}
 use Rattle.calculation.specs.Calculating.{Outcome, Said, saidOf, calculateOf, doneOf, resultsOf, written}

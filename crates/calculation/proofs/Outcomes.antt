@@ -16,14 +16,14 @@ use Rattle.fairness.specs.Answer.{Answer, figure1Rate}
 use Rattle.fairness.specs.MaxMin.{Active}
 use Rattle.fairness.proofs.Answers.{answer-unique, figure1-answer}
 use Rattle.fairness.proofs.Running.{values-at}
-use Rattle.records.specs.Declaring.{declarationsOf}
-use Rattle.records.specs.declared.Declared.{Declared}
 use Rattle.records.specs.declared.End.{End}
 use Rattle.records.specs.declared.End.the-variants as end
 use Rattle.records.specs.declared.Refusal.{Refusal}
 use Rattle.records.specs.declared.Refusal.the-variants as refusal
 use Rattle.records.specs.Format.{Bytes}
-use Rattle.records.proofs.KeepsRanges.{declarations-in-range}
+use Rattle.declarations.specs.Declaring.{declarationsOf}
+use Rattle.declarations.specs.declared.Declared.{Declared}
+use Rattle.declarations.proofs.KeepsRanges.{declarations-in-range}
 use Rattle.filling.specs.Lines.{Ranges, problemOf}
 use Rattle.calculation.specs.Calculating.{Ordered, Outcome, afterRecords, calculateOf, doneOf, refusing, resultsOf, saidOf}
 use Rattle.calculation.specs.declared.Calculated.{Calculated}

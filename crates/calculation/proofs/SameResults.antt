@@ -17,7 +17,7 @@ use Rattle.fairness.proofs.Running.{values-at}
 use Rattle.fairness.proofs.SameRates.{full-same, own-same}
 use Rattle.fractions.proofs.Cases.{eqb-T}
 use Rattle.fairness.proofs.Uniqueness.{max-min-unique}
-use Rattle.records.specs.declared.Declared.{Declared}
+use Rattle.declarations.specs.declared.Declared.{Declared}
 use Rattle.filling.specs.Lines.{Filled, problemOf}
 use Rattle.filling.specs.declared.Fixed.{Fixed}
 use Rattle.calculation.specs.Binding.{bindingOf, firstOf, fullyUsed, pathBytes}

@@ -7,7 +7,7 @@ use lib.Dec.{eqb, ltb}
 use lib.ListN.{getD}
 use Rattle.fairness.specs.Figure1.{values}
 use Rattle.fairness.specs.MaxMin.{Problem, used}
-use Rattle.records.specs.declared.Declared.{Declared}
+use Rattle.declarations.specs.declared.Declared.{Declared}
 use Rattle.filling.specs.Lines.{problemOf}
 
 -- what stands in the answer for "own"

@@ -10,13 +10,13 @@ use Rattle.fractions.specs.Fraction.{frac, lowestOf}
 use Rattle.sessions.specs.Set.{members, walk}
 use Rattle.fairness.specs.Answer.{Answer}
 use Rattle.fairness.specs.Figure1.{figure1, rate, values}
-use Rattle.records.specs.Declaring.{declarationsOf}
 use Rattle.records.specs.Limits.{inputLimit}
 use Rattle.records.specs.Refusals.{numberOf}
-use Rattle.records.specs.declared.Declared.{Declared}
 use Rattle.records.specs.declared.End.{End}
 use Rattle.records.specs.declared.End.the-variants as end
 use Rattle.records.specs.declared.Refusal.the-variants as refusal
+use Rattle.declarations.specs.Declaring.{declarationsOf}
+use Rattle.declarations.specs.declared.Declared.{Declared}
 use Rattle.filling.specs.Lines.{problemOf}
 use Rattle.calculation.specs.Binding.{bindingOf}
 use Rattle.calculation.specs.declared.Calculated.{Calculated}

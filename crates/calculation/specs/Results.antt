@@ -6,7 +6,7 @@ use lib.ListN.{getD}
 use Rattle.fractions.specs.Fraction.{lowestOf}
 use Rattle.sessions.specs.Set.{has}
 use Rattle.filling.specs.declared.Fixed.{Fixed}
-use Rattle.records.specs.declared.Declared.{Declared}
+use Rattle.declarations.specs.declared.Declared.{Declared}
 use Rattle.calculation.specs.Binding.{bindingOf}
 use Rattle.calculation.specs.declared.Results.{Results}
 

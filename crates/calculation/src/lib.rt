@@ -9,9 +9,9 @@ ghost use Rattle.filling.specs.Lines.{Filled, Ranges};
 ghost use Rattle.calculation.specs.Binding.{bindingOf, firstOf};
 ghost use Rattle.calculation.specs.Calculating.{Ordered, calculateOf, doneOf, saidOf, written};
 ghost use Rattle.calculation.specs.Results.{Found};
+use declarations::Declared;
 use filling::Fixed;
 use fractions::Rate;
-use records::Declared;
 use records::End;
 use records::Refusal;
 
@@ -71,7 +71,7 @@ fn binding(d: Declared, z: Fixed, t: u32) -> u64
     ensures { λ r. ⌜ r ≡ bindingOf d (z .den) (λ s. getD (z .rate) s 0) t ⌝ }
 {
     let i = t as usize;
-    let limit = records::own_limit(d.access[i], d.maximum[i]);
+    let limit = declarations::own_limit(d.access[i], d.maximum[i]);
     let den = z.den;
     let most = den * limit;
     if z.rate[i] == most {
@@ -178,7 +178,7 @@ pub fn calculate(s: &[u8], nums: &mut [u64], dens: &mut [u64], places: &mut [u64
             place: 0,
         };
     }
-    let read = records::declare_all(s);
+    let read = declarations::declare_all(s);
     let end = read.end;
     match end {
         End::Refused { refusal, place } => Calculated::Refused { refusal, place },

@@ -210,7 +210,7 @@ fn limit_at(t: &[u64; 9153], s: usize) -> Rate
     ensures { λ r. ⌜ r ≡ limitOf (now (t .entry)) s ⌝ }
 {
     let z = table::source_at(t, s);
-    let d = records::own_limit(z.access, z.maximum);
+    let d = declarations::own_limit(z.access, z.maximum);
     Rate::whole(d)
 }
 

@@ -6,7 +6,7 @@ use mathlib.Core.Bool.{Bool, cond, false, not, true, _&&_, _||_}
 use Prim.Native.Nat.{ℕ, _≤_}
 use Rattle.fractions.specs.declared.Rate.{Rate}
 use Rattle.fractions.specs.Fraction.{Sized, ltOf, maxRate, sameOf, wholeOf, zeroOf}
-use Rattle.records.specs.Declaring.{ownLimitOf}
+use Rattle.declarations.specs.Declaring.{ownLimitOf}
 use Rattle.tasks.specs.declared.Eta.the-variants as eta
 use Rattle.tasks.specs.declared.Kind.{Kind}
 use Rattle.tasks.specs.declared.Kind.the-variants as kind

@@ -45,7 +45,7 @@ pub struct SourceDid {
 fn own_limit(z: Source) -> Rate
     ensures { λ r. ⌜ r ≡ wholeOf (D z) ⌝ }
 {
-    Rate::whole(records::own_limit(z.access, z.maximum))
+    Rate::whole(declarations::own_limit(z.access, z.maximum))
 }
 
 // The source with what its task keeps.

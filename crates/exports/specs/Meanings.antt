@@ -10,7 +10,7 @@ use Rattle.fairness.specs.Answer.{Answer}
 use Rattle.filling.specs.Lines.{problemOf}
 use Rattle.fractions.specs.Fraction.{frac}
 use Rattle.handed.specs.Passes.{Passes}
-use Rattle.records.specs.Declaring.{declarationsOf}
+use Rattle.declarations.specs.Declaring.{declarationsOf}
 
 -- where the report's first word is 0, the slices hold for the declared sessions the rates in lowest terms that are max-min fair
 abbrev pub FairWhereTaken : List ℕ → List ℕ → List ℕ → List ℕ → Type 0

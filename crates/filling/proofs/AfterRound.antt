@@ -24,7 +24,7 @@ use Rattle.fairness.proofs.NetOfProblem.{cap-link}
 use Rattle.fairness.proofs.Rounds.{Filling, falls, left-after, step}
 use Rattle.fairness.proofs.Sums.{sum-eq}
 use Rattle.fractions.proofs.Cases.{order}
-use Rattle.records.specs.declared.Declared.{Declared}
+use Rattle.declarations.specs.declared.Declared.{Declared}
 use Rattle.filling.specs.Lines.{problemOf}
 use Rattle.filling.specs.OneRound.{LinksAfter, Running, fixedIn, linkAfter}
 use Rattle.filling.specs.SmallestShare.{LinksFit, wordOf}

@@ -16,7 +16,7 @@ use Rattle.fairness.proofs.Denominators.{small-32}
 use Rattle.fairness.proofs.Figure1IsFair.{filling-begins, filling-ends-fair, load-zero}
 use Rattle.fairness.proofs.NetOfProblem.{cap-link, load-link, on-link}
 use Rattle.fairness.proofs.Products.{one-largest}
-use Rattle.records.specs.declared.Declared.{Declared}
+use Rattle.declarations.specs.declared.Declared.{Declared}
 use Rattle.filling.specs.Crossings.{Crossing}
 use Rattle.filling.specs.Lines.{Filled, Ranges, crossesOf, problemOf}
 use Rattle.filling.specs.OneRound.{Running, fixedIn}

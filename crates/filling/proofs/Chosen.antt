@@ -21,7 +21,7 @@ use Rattle.fairness.specs.Figure1.{Net, net}
 use Rattle.fairness.proofs.Anys.{any-at, any-found}
 use Rattle.fairness.proofs.NetOfProblem.{on-link}
 use Rattle.fractions.proofs.Cases.{and-join, and-split, order}
-use Rattle.records.specs.declared.Declared.{Declared}
+use Rattle.declarations.specs.declared.Declared.{Declared}
 use Rattle.search.specs.Crossing.{AllAt, Meets}
 use Rattle.filling.specs.Lines.{crossesOf, problemOf}
 use Rattle.filling.specs.OneRound.{Running}

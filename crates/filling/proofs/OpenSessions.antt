@@ -25,7 +25,7 @@ use Rattle.fairness.proofs.NetOfProblem.{cap-link, cap-own, load-own, on-own, o
 use Rattle.fairness.proofs.Sums.{sum-eq, sum-first}
 use Rattle.fractions.proofs.Cases.{order, split}
 use Rattle.fairness.proofs.Parts.{part-is}
-use Rattle.records.specs.declared.Declared.{Declared}
+use Rattle.declarations.specs.declared.Declared.{Declared}
 use Rattle.filling.specs.Lines.{problemOf}
 use Rattle.filling.specs.OneRound.{Running, fixedIn}
 use Rattle.filling.specs.SmallestShare.{limitsOf, roomOf, wordOf}

@@ -26,8 +26,8 @@ use Rattle.fairness.proofs.NetOfProblem.{cap-own, load-own}
 use Rattle.fairness.proofs.Rounds.{Round}
 use Rattle.fractions.proofs.Cases.{order}
 use Rattle.fairness.proofs.Parts.{part-le}
-use Rattle.records.proofs.OwnLimit.{own-limit-le}
-use Rattle.records.specs.declared.Declared.{Declared}
+use Rattle.declarations.proofs.OwnLimit.{own-limit-le}
+use Rattle.declarations.specs.declared.Declared.{Declared}
 use Rattle.filling.specs.Lines.{problemOf}
 use Rattle.filling.specs.OneRound.{RatesAfter, Running, fixedIn, rateAfter}
 use Rattle.filling.specs.SmallestShare.{GivenAmong, limitsOf, roomOf, wordOf}

@@ -6,7 +6,7 @@ use lib.ListN.{getD}
 use Rattle.fairness.specs.MaxMin.{Active, used}
 use Rattle.fairness.proofs.SameRates.{full-same}
 use Rattle.fairness.proofs.Uniqueness.{max-min-unique}
-use Rattle.records.specs.declared.Declared.{Declared}
+use Rattle.declarations.specs.declared.Declared.{Declared}
 use Rattle.filling.specs.Lines.{Filled, problemOf}
 use Rattle.filling.specs.declared.Fixed.{Fixed}
 

@@ -10,8 +10,8 @@ use lib.ListN.{getD, length}
 use Rattle.sessions.specs.Set.{has}
 use Rattle.fairness.specs.Figure1.{any}
 use Rattle.fairness.specs.MaxMin.{MaxMinFair, Problem, used}
-use Rattle.records.specs.Declaring.{ownLimitOf}
-use Rattle.records.specs.declared.Declared.{Declared}
+use Rattle.declarations.specs.Declaring.{ownLimitOf}
+use Rattle.declarations.specs.declared.Declared.{Declared}
 use Rattle.filling.specs.declared.Fixed.{Fixed}
 
 -- the path of session s has link e: one of its eight bytes is e

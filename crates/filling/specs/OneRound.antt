@@ -12,7 +12,7 @@ use Rattle.sessions.specs.Set.{cut, has}
 use Rattle.fairness.specs.Figure1.{leftAt, loadAt, net}
 use Rattle.fairness.proofs.Rounds.{Filling}
 use Rattle.fairness.proofs.Denominators.{SmallDenominator}
-use Rattle.records.specs.declared.Declared.{Declared}
+use Rattle.declarations.specs.declared.Declared.{Declared}
 use Rattle.filling.specs.Lines.{Ranges, problemOf}
 use Rattle.filling.specs.SmallestShare.{Busy, LinksFit}
 use Rattle.filling.specs.declared.Fill.{Fill}

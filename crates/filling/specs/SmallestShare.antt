@@ -11,7 +11,7 @@ use lib.Count.{ones}
 use lib.Dec.{eqb, ltb}
 use lib.ListN.{getD}
 use Rattle.sessions.specs.Set.{has}
-use Rattle.records.specs.Declaring.{ownLimitOf}
+use Rattle.declarations.specs.Declaring.{ownLimitOf}
 use Rattle.filling.specs.declared.Given.{Given}
 use Rattle.filling.specs.declared.Links.{Links}
 use Rattle.filling.specs.declared.Smallest.{Smallest}

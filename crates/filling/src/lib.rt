@@ -8,8 +8,8 @@ ghost use Rattle.filling.specs.Crossings.{Crossing, WithPath};
 ghost use Rattle.filling.specs.Lines.{Filled, Ranges};
 ghost use Rattle.filling.specs.OneRound.{Enough, LinksAfter, RatesAfter, RatesFit, Running, busyAfter, linkAfter, rateAfter};
 ghost use Rattle.filling.specs.SmallestShare.{GivenFits, LeastLink, LeastOwn, LinksFit, SmallestFits, smallerOf};
+use declarations::Declared;
 use fractions::Part;
-use records::Declared;
 
 // What is left of each link, the sessions there not yet fixed, and the links that have such a session. A link without one keeps what it had
 // left when its last session was fixed, in parts of the denominator of that round.
@@ -130,7 +130,7 @@ fn least_own(l: Smallest, den: u64, opens: u32, access: [u64; 32], maximum: [u64
     while left != 0 {
         let s = sessions::next(left);
         let i = s as usize;
-        let limit = records::own_limit(access[i], maximum[i]);
+        let limit = declarations::own_limit(access[i], maximum[i]);
         let own = sessions::only(s);
         now = smaller(now, den * limit, own, own, 0);
         left = sessions::cut(left, s);
@@ -310,7 +310,7 @@ fn start(d: Declared) -> Fill
     let words = crossing(path, sessions);
     let busy = words.busy;
     let at = words.at;
-    let rate = records::no_rates();
+    let rate = declarations::no_rates();
     let links = Links {
         busy: busy,
         room: room,

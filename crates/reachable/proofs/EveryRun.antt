@@ -13,7 +13,7 @@ use Rattle.records.specs.declared.Record.{Record}
 use Rattle.records.specs.Format.{Bytes, RecordOk}
 use Rattle.records.specs.Limits.{inputLimit}
 use Rattle.records.specs.Run as records
-use Rattle.records.proofs.KeepsRanges.{run-keeps}
+use Rattle.records.proofs.Runs.{run-keeps}
 use Rattle.table.specs.Words.{emptyWords}
 use Rattle.reachable.specs.Reachable.{Reachable, empty, ran}
 

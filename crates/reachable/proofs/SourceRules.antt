@@ -18,7 +18,7 @@ use Rattle.fractions.specs.Fraction.{Within, maxRate, wholeOf}
 use Rattle.links.specs.declared.Mu.{Mu}
 use Rattle.links.specs.declared.Mu.the-variants as mu
 use Rattle.links.specs.Links.{isIdle}
-use Rattle.records.proofs.OwnLimit.{own-limit-le}
+use Rattle.declarations.proofs.OwnLimit.{own-limit-le}
 use Rattle.soundness.specs.LinkDid.{GoesOn}
 use Rattle.table.specs.Values.{KindWithin, SourceWithin, ToldWithin}
 use Rattle.tasks.specs.declared.Kind.{Kind}

@@ -3,7 +3,5 @@ pub mod Alls
 pub mod Somes
 pub mod Bodies
 pub mod TakenKinds
-pub mod OwnLimit
 pub mod ReadRecords
 pub mod Runs
-pub mod KeepsRanges

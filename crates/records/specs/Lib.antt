@@ -3,4 +3,3 @@ pub mod Limits
 pub mod Refusals
 pub mod Format
 pub mod Run
-pub mod Declaring

@@ -8,7 +8,7 @@ use native.Mathlib.Omega.{arith}
 use borrow.Author.Tests.{eq-eqb, ne-eqb}
 use native.Mathlib.Nat.{le-trans, mul-le-mul}
 use Rattle.filling.specs.Lines.{problemOf}
-use Rattle.records.proofs.OwnLimit.{own-limit-le}
+use Rattle.declarations.proofs.OwnLimit.{own-limit-le}
 use Rattle.calculation.specs.Binding.{bindingOf, fullyUsed, pathBytes}
 use Rattle.calculation.proofs.FirstOf.{eqb-below, first-cong}
 use Rattle.calculation.proofs.binding.Statement.{statement}

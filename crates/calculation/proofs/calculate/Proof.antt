@@ -7,9 +7,9 @@ use denote.Ref.{now}
 use native.Mathlib.Omega.{arith}
 use mathlib.Core.List.{List}
 use mathlib.Core.Path.{subst}
-use Rattle.records.specs.Declaring.{declarationsOf}
-use Rattle.records.specs.declared.Declarations.{Declarations}
 use Rattle.records.specs.declared.End.{End}
+use Rattle.declarations.specs.Declaring.{declarationsOf}
+use Rattle.declarations.specs.declared.Declarations.{Declarations}
 use Rattle.filling.specs.Lines.{Ranges}
 use Rattle.calculation.specs.Calculating.{Outcome, saidOf, afterRecords, calculateOf, doneOf, refusing}
 use Rattle.calculation.specs.declared.Calculated.{Calculated}

@@ -10,7 +10,7 @@ use Rattle.sessions.specs.Set.{cut, has}
 use Rattle.sessions.proofs.Members.{has-cut-le, has-lt}
 use Rattle.sessions.proofs.Walks.{next-below, next-has, next-less}
 use lib.Pow.{pow-lt}
-use Rattle.records.proofs.OwnLimit.{own-limit-le}
+use Rattle.declarations.proofs.OwnLimit.{own-limit-le}
 use Rattle.filling.specs.SmallestShare.{SmallestAmong, SmallestFits, below, limitsOf, roomOf, smallerOf, wordOf}
 use Rattle.filling.specs.declared.Links.{Links}
 use Rattle.filling.proofs.SmallestOfAll.{best-all, best-own, best-start, seen}

@@ -1,0 +1,2 @@
+-- The definitions that the contracts of declarations cite.
+pub mod Declaring
