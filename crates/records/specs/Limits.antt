@@ -1,6 +1,7 @@
 -- 01, "What the order covers": the limits.
 -- Assumes nothing: definitions.
 use Prim.Native.Nat.{ℕ}
+use Rattle.fractions.specs.Fraction.{maxRate}
 
 -- 64 links numbered 0 to 63
 abbrev pub linkLimit : ℕ
@@ -16,7 +17,7 @@ pathLimit = 8
 
 -- capacity and access rate 1 to 1,000,000 kbit/s; maximum 1 to 1,000,000, or 0 for no maximum
 abbrev pub rateLimit : ℕ
-rateLimit = 1000000
+rateLimit = maxRate
 
 -- 256 packets in flight
 abbrev pub packetLimit : ℕ

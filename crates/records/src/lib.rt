@@ -2,6 +2,7 @@
 mod paths;
 mod reading;
 
+use fractions::Rate;
 pub use reading::read_at;
 pub use reading::size_at;
 pub use reading::wide;
@@ -16,7 +17,7 @@ pub const SESSIONS: u8 = 32;
 
 pub const PATH: usize = 8;
 
-pub const RATE: u64 = 1_000_000;
+pub const RATE: u64 = Rate::MAX;
 
 pub const PACKETS: usize = 256;
 
