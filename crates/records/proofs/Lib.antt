@@ -5,3 +5,4 @@ pub mod Bodies
 pub mod TakenKinds
 pub mod ReadRecords
 pub mod Runs
+mod PastEnd

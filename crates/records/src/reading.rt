@@ -181,11 +181,13 @@ fn body_at(s: &[u8], at: usize, kind: u8) -> Read
     }
 }
 
-// The record at a place: refusals 2 to 6 in number order.
+// The record at a place: refusals 2 to 6 in number order. Past the end stands no kind, and so none that is taken.
 pub fn read_at(call: Call, s: &[u8], at: usize) -> Read
-    requires { ⌜ at < length (now s) ⌝ }
     ensures { λ r. ⌜ r ≡ readAt call (now (s .entry)) at ⌝ }
 {
+    if s.len() <= at {
+        return Read::Refused(Refusal::KindNotTaken);
+    }
     let kind = s[at];
     if !takes(call, kind) {
         return Read::Refused(Refusal::KindNotTaken);
@@ -196,10 +198,12 @@ pub fn read_at(call: Call, s: &[u8], at: usize) -> Read
     body_at(s, at, kind)
 }
 
-// How many bytes the record at a place has.
+// How many bytes the record at a place has: its kind, and the body of that kind.
 pub fn size_at(s: &[u8], at: usize) -> usize
-    requires { ⌜ at < length (now s) ⌝ }
     ensures { λ r. ⌜ (r ≡ sizeAt (now (s .entry)) at) × (0 < r) × (r ≤ 19) ⌝ }
 {
+    if s.len() <= at {
+        return 1;
+    }
     1 + body(s[at])
 }

@@ -9,9 +9,13 @@ use native.Mathlib.Omega.{arith}
 use borrow.Author.Tests.{le-leb, lt-leb}
 use Rattle.records.specs.Format.{bodyOf, readAt, sizeAt}
 use Rattle.fractions.proofs.Cases.{not-true, not-false}
+use Rattle.records.proofs.PastEnd.{read-past-end}
 use Rattle.records.proofs.TakenKinds.{taken-kind}
 use Rattle.records.proofs.reading.read_at.Statement.{statement}
 use Rattle.records.proofs.reading.read_at.Tie as tie
+
+returns : tie.Need-returns
+returns c = sym (read-past-end _ _ (c .if1 .taken) _)
 
 shared-slice-read-kind : tie.Need-shared-slice-read-kind
 shared-slice-read-kind c = search needs
@@ -19,48 +23,49 @@ shared-slice-read-kind c = search needs
 takes-requires : tie.Need-takes-requires
 takes-requires c κs = search needs
 
-returns : tie.Need-returns
+returns-2 : tie.Need-returns-2
 unfolding readAt
-returns c = let e = sym (c .before .takes .ensures) ∙ not-true _ (c .if1 .taken) in rw e
+returns-2 c = let e = sym (c .before .takes .ensures) ∙ not-true _ (c .if2 .taken) in rw e
 
-sub-if2 : tie.Need-sub-if2
-sub-if2 c = search needs
+sub-if3 : tie.Need-sub-if3
+sub-if3 c = search needs
 
 body-requires : tie.Need-body-requires
 body-requires c κs = search needs
 
-add-if2 : tie.Need-add-if2
-add-if2 c = search needs
-
-returns-2 : tie.Need-returns-2
-unfolding readAt sizeAt
-returns-2 c = let a = c .before .before .before .before .before .before .args in
-    let e = sym (c .before .before .before .takes .ensures) ∙ not-false _ (c .before .before .if1 .left) in
-    simp (e, lt-leb (a .at + (1 + bodyOf (getD (now (a .s)) (a .at) 0))) (length (now (a .s))) (omega (arith, c .before .body .ensures)))
-
-body-at-requires : tie.Need-body-at-requires
-body-at-requires c κs =
-    let a = c .before .before .before .before .before .before .args in
-    let e = sym (c .before .before .before .takes .ensures) ∙ not-false _ (c .before .before .if1 .left) in
-    let k = taken-kind (a .call) (getD (now (a .s)) (a .at) 0) e in
-    (k .0, k .1, refl, omega (arith, c .before .body .ensures))
+add-if3 : tie.Need-add-if3
+add-if3 c = search needs
 
 returns-3 : tie.Need-returns-3
 unfolding readAt sizeAt
 returns-3 c = let a = c .before .before .before .before .before .before .before .args in
-    let e = sym (c .before .before .before .before .takes .ensures) ∙ not-false _ (c .before .before .before .if1 .left) in
+    let e = sym (c .before .before .before .takes .ensures) ∙ not-false _ (c .before .before .if2 .left) in
+    simp (e, lt-leb (a .at + (1 + bodyOf (getD (now (a .s)) (a .at) 0))) (length (now (a .s))) (omega (arith, c .before .body .ensures)))
+
+body-at-requires : tie.Need-body-at-requires
+body-at-requires c κs =
+    let a = c .before .before .before .before .before .before .before .args in
+    let e = sym (c .before .before .before .takes .ensures) ∙ not-false _ (c .before .before .if2 .left) in
+    let k = taken-kind (a .call) (getD (now (a .s)) (a .at) 0) e in
+    (k .0, k .1, refl, omega (arith, c .before .body .ensures))
+
+returns-4 : tie.Need-returns-4
+unfolding readAt sizeAt
+returns-4 c = let a = c .before .before .before .before .before .before .before .before .args in
+    let e = sym (c .before .before .before .before .takes .ensures) ∙ not-false _ (c .before .before .before .if2 .left) in
     c .body-at .ensures ∙ simp (e, le-leb (a .at + (1 + bodyOf (getD (now (a .s)) (a .at) 0))) (length (now (a .s))) (omega (arith, c .before .before .body .ensures)))
 
 pub read-at-spec : {M : Type 1} → statement M
 read-at-spec =
     tie.close
     (tie.spec
+    returns
     shared-slice-read-kind
     takes-requires
-    returns
-    sub-if2
-    body-requires
-    add-if2
     returns-2
+    sub-if3
+    body-requires
+    add-if3
+    returns-3
     body-at-requires
-    returns-3)
+    returns-4)
