@@ -146,3 +146,7 @@ chose-first false e n = absurd (n e)
 pub chose-second : {A : Type 0} {x z : A} (y : A) (t : Bool) → cond t x y ≡ z → (x ≡ z → ⊥) → t ≡ false
 chose-second y true e n = absurd (n e)
 chose-second y false e n = refl
+
+-- an answer that is the one promised says the same
+pub said-too : {A B : Type 0} (f : A → B) {x y : A} → x ≡ y → (x ≡ y) × (f x ≡ f y)
+said-too f e = (e, ap f e)

@@ -128,3 +128,26 @@ eachOf c t k = lowestOf (c * t .den - t .num) (t .den * k)
 -- a link's share, or that its denominator is over the limit
 unfoldable pub shareOf : ℕ → Rate → ℕ → Share
 shareOf c t k = cond (fineOf (eachOf c t k)) (share.Rate (eachOf c t k)) share.TooFine
+
+-- 01'S NUMBER AND VALUES ----------------------------------------------------------------------------------------------
+
+-- of an answer that is a rate: 0 with its numerator and denominator, or the number of the refusal that stands in its way
+pub record RateSaid : Type 0 where
+  pub number : ℕ
+  pub num : ℕ
+  pub den : ℕ
+
+abbrev pub rateSaid : Rate → RateSaid
+rateSaid x = record { number = 0; num = x .num; den = x .den }
+
+abbrev pub noRate : ℕ → RateSaid
+noRate n = record { number = n; num = 0; den = 0 }
+
+-- too fine is refusal 12
+abbrev pub sumSaid : Sum → RateSaid
+sumSaid (sum.Rate y) = rateSaid y
+sumSaid sum.TooFine = noRate 12
+
+abbrev pub shareSaid : Share → RateSaid
+shareSaid (share.Rate y) = rateSaid y
+shareSaid share.TooFine = noRate 12

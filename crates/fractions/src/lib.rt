@@ -2,7 +2,7 @@
 ghost use mathlib.Core.Path.{_≡_};
 ghost use Prim.Native.Nat.{ℕ, _*_, _≤_, _<_};
 ghost use Rattle.fractions.specs.Divisor.{IsGcd};
-ghost use Rattle.fractions.specs.Fraction.{Sized, limit, maxDen, maxRate, isRateOf, keptOf, leOf, ltOf, sameOf, zeroOf, wholeOf, lowestOf, fineOf, plusOf, leftOf, amongOf, shareOf};
+ghost use Rattle.fractions.specs.Fraction.{Sized, limit, maxDen, maxRate, isRateOf, keptOf, leOf, ltOf, sameOf, zeroOf, wholeOf, lowestOf, fineOf, plusOf, leftOf, amongOf, shareOf, sumSaid, shareSaid};
 
 // A rate in kbit/s.
 pub struct Rate {
@@ -159,7 +159,8 @@ impl Rate {
     // The sum with b.
     pub fn plus(self, b: Rate) -> Sum
         requires { ⌜ Sized limit self × Sized limit b ⌝ }
-        ensures { λ r. ⌜ r ≡ plusOf self b ⌝ }
+        ensures exact { λ r. ⌜ r ≡ plusOf self b ⌝ }
+        ensures said { λ r. ⌜ sumSaid r ≡ sumSaid (plusOf self b) ⌝ }
     {
         let n = self.num;
         let d = self.den;
@@ -179,7 +180,8 @@ impl Rate {
     // A link's share: what is left of its capacity when what is taken is gone, for each of count sessions.
     pub fn share(capacity: u64, taken: Rate, count: u64) -> Share
         requires { ⌜ Sized maxRate taken × (capacity ≤ maxRate) × (taken .num ≤ capacity * taken .den) × (0 < count) × (count ≤ 32) ⌝ }
-        ensures { λ r. ⌜ r ≡ shareOf capacity taken count ⌝ }
+        ensures exact { λ r. ⌜ r ≡ shareOf capacity taken count ⌝ }
+        ensures said { λ r. ⌜ shareSaid r ≡ shareSaid (shareOf capacity taken count) ⌝ }
     {
         let each = Part::left(capacity, taken).among(count);
         let n = each.num;

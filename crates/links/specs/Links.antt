@@ -12,7 +12,7 @@ use Rattle.fractions.specs.declared.Share.{Share}
 use Rattle.fractions.specs.declared.Share.the-variants as share
 use Rattle.fractions.specs.declared.Sum.{Sum}
 use Rattle.fractions.specs.declared.Sum.the-variants as sum
-use Rattle.fractions.specs.Fraction.{Sized, frac, leOf, limit, ltOf, maxRate, plusOf, sameOf, shareOf, wholeOf, zeroOf}
+use Rattle.fractions.specs.Fraction.{Sized, frac, leOf, limit, ltOf, maxRate, noRate, plusOf, RateSaid, rateSaid, sameOf, shareOf, wholeOf, zeroOf}
 use Rattle.sessions.specs.Set.{hasOf, members, put, sizeOf, walk}
 use Rattle.links.specs.declared.Bound.{Bound}
 use Rattle.links.specs.declared.Bound.the-variants as bound
@@ -107,6 +107,17 @@ boundOf c (suc k) total.PastC = bound.At zeroOf
 -- 01, expected form: the count of ones of R's word is the divisor
 unfoldable pub B : Place → Bound
 B p = boundOf (p .link .capacity) (sizeOf (R p)) (sumOf p)
+
+-- 01's number and values of a sum of F and of a B: too fine is refusal 12, and F past C is refusal 14; above every rate are the values 1 and 0
+abbrev pub totalSaid : Total → RateSaid
+totalSaid (total.Rate y) = rateSaid y
+totalSaid total.TooFine = noRate 12
+totalSaid total.PastC = noRate 14
+
+abbrev pub boundSaid : Bound → RateSaid
+boundSaid (bound.At b) = rateSaid b
+boundSaid bound.Above = record { number = 0; num = 1; den = 0 }
+boundSaid bound.TooFine = noRate 12
 
 -- refusal 12: no partial sum that was formed, nor B, has a denominator over the limit. That F sums past C is a question of its own
 abbrev pub isFine : Bound → Bool

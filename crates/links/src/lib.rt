@@ -8,7 +8,7 @@ ghost use Prim.Native.Nat.{ℕ, _≤_, _<_};
 ghost use Rattle.fractions.specs.Fraction.{Sized, maxRate};
 ghost use Rattle.sessions.specs.Set.{put};
 ghost use Rattle.links.specs.FCheck.{checkOf, checkedOf, higherOf, highestOf, processOf, turnOf};
-ghost use Rattle.links.specs.Links.{B, BoundSized, Rates, SumSized, TotalSized, WantedSized, Workable, aboveB, allAtB, asBound, atLeastB, atMostB, belowB, boundOf, equalsB, holds, isFine, isIdle, meetsOf, moreOf, sumOf, thoseOf, uptoOf, waitingOf, withEntry, withMu, withWords};
+ghost use Rattle.links.specs.Links.{B, BoundSized, Rates, SumSized, TotalSized, WantedSized, Workable, aboveB, allAtB, asBound, atLeastB, atMostB, belowB, boundOf, equalsB, holds, isFine, isIdle, meetsOf, moreOf, sumOf, thoseOf, uptoOf, waitingOf, withEntry, withMu, withWords, totalSaid, boundSaid};
 
 // The state of a session at a link or at its source.
 pub enum Mu {
@@ -157,7 +157,8 @@ fn more(capacity: u64, total: Total, x: Rate) -> Total
 // The sum of F, by rising session number.
 pub fn sum_of_f(p: Place) -> Total
     requires { ⌜ Workable p ⌝ }
-    ensures { λ r. ⌜ r ≡ sumOf p ⌝ }
+    ensures exact { λ r. ⌜ r ≡ sumOf p ⌝ }
+    ensures said { λ r. ⌜ totalSaid r ≡ totalSaid (sumOf p) ⌝ }
 {
     let capacity = p.link.capacity;
     let mut total = Total::Rate(Rate::zero());
@@ -209,7 +210,8 @@ fn bound_from(capacity: u64, count: u32, total: Total) -> Bound
 // The rate B that this link can give each session of R.
 pub fn bottleneck_rate(p: Place) -> Bound
     requires { ⌜ Workable p ⌝ }
-    ensures { λ r. ⌜ r ≡ B p ⌝ }
+    ensures exact { λ r. ⌜ r ≡ B p ⌝ }
+    ensures said { λ r. ⌜ boundSaid r ≡ boundSaid (B p) ⌝ }
 {
     let total = sum_of_f(p);
     bound_from(p.link.capacity, sessions::size(p.link.r), total)

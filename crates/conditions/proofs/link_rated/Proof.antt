@@ -21,12 +21,12 @@ bottleneck-rate-requires c κs = subst Workable (sym (c .place-at .ensures)) (pl
 members-rated-requires : tie.Need-members-rated-requires
 members-rated-requires c κs =
     let o = subst Workable (sym (c .before .place-at .ensures)) (place-workable (c .before .before .args .t .now) (c .before .before .args .e)) in
-    (subst BoundSized (sym (c .bottleneck-rate .ensures)) (B-sized (c .before .place-at .result) o), o .rates)
+    (subst BoundSized (sym (c .bottleneck-rate .ensures .0)) (B-sized (c .before .place-at .result) o), o .rates)
 
 returns : tie.Need-returns
 unfolding linkRated
 returns c =
-    let d = sym (c .before .members-rated .ensures ∙ ap (λ (x : Bound). membersRated x (c .before .before .before .place-at .result)) (c .before .before .bottleneck-rate .ensures) ∙ ap (λ (p : Place). membersRated (B p) p) (c .before .before .before .place-at .ensures)) ∙ not-true _ (c .if1 .taken) in
+    let d = sym (c .before .members-rated .ensures ∙ ap (λ (x : Bound). membersRated x (c .before .before .before .place-at .result)) (c .before .before .bottleneck-rate .ensures .0) ∙ ap (λ (p : Place). membersRated (B p) p) (c .before .before .before .place-at .ensures)) ∙ not-true _ (c .if1 .taken) in
     rw d
 
 sum-rated-requires : tie.Need-sum-rated-requires
@@ -35,7 +35,7 @@ sum-rated-requires c κs = subst Workable (sym (c .before .before .before .place
 returns-2 : tie.Need-returns-2
 unfolding linkRated
 returns-2 c =
-    let d = sym (c .before .before .members-rated .ensures ∙ ap (λ (x : Bound). membersRated x (c .before .before .before .before .place-at .result)) (c .before .before .before .bottleneck-rate .ensures) ∙ ap (λ (p : Place). membersRated (B p) p) (c .before .before .before .before .place-at .ensures)) ∙ not-false _ (c .before .if1 .left) in
+    let d = sym (c .before .before .members-rated .ensures ∙ ap (λ (x : Bound). membersRated x (c .before .before .before .before .place-at .result)) (c .before .before .before .bottleneck-rate .ensures .0) ∙ ap (λ (p : Place). membersRated (B p) p) (c .before .before .before .before .place-at .ensures)) ∙ not-false _ (c .before .if1 .left) in
     rw d (c .sum-rated .ensures ∙ ap sumRated (c .before .before .before .before .place-at .ensures))
 
 pub link-rated-spec : {M : Type 1} → statement M

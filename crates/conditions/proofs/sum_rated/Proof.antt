@@ -19,7 +19,7 @@ is-at-most-c-requires c κs = search needs
 
 returns-2 : tie.Need-returns-2
 unfolding sumRated
-returns-2 c = rw (eq-eqb _ _ (c .before .before .if1 .left)) (c .is-at-most-c .ensures ∙ ap isAtMostC (c .before .sum-of-f .ensures))
+returns-2 c = rw (eq-eqb _ _ (c .before .before .if1 .left)) (c .is-at-most-c .ensures ∙ ap isAtMostC (c .before .sum-of-f .ensures .0))
 
 pub sum-rated-spec : {M : Type 1} → statement M
 sum-rated-spec = tie.close (tie.spec returns sum-of-f-requires is-at-most-c-requires returns-2)

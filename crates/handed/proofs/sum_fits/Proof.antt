@@ -20,7 +20,7 @@ is-past-c-requires c κs = search needs
 returns : tie.Need-returns
 unfolding sumFits
 returns c =
-    let d = sym (c .before .is-past-c .ensures ∙ ap isPastC (c .before .before .sum-of-f .ensures ∙ ap sumOf (c .before .before .before .place-at .ensures))) ∙ c .if1 .taken in
+    let d = sym (c .before .is-past-c .ensures ∙ ap isPastC (c .before .before .sum-of-f .ensures .0 ∙ ap sumOf (c .before .before .before .place-at .ensures))) ∙ c .if1 .taken in
     rw d
 
 bottleneck-rate-requires : tie.Need-bottleneck-rate-requires
@@ -32,8 +32,8 @@ is-fine-requires c κs = search needs
 returns-2 : tie.Need-returns-2
 unfolding sumFits
 returns-2 c =
-    let d = sym (c .before .before .before .is-past-c .ensures ∙ ap isPastC (c .before .before .before .before .sum-of-f .ensures ∙ ap sumOf (c .before .before .before .before .before .place-at .ensures))) ∙ c .before .before .if1 .left in
-    rw d (c .is-fine .ensures ∙ ap isFine (c .before .bottleneck-rate .ensures ∙ ap B (c .before .before .before .before .before .place-at .ensures)))
+    let d = sym (c .before .before .before .is-past-c .ensures ∙ ap isPastC (c .before .before .before .before .sum-of-f .ensures .0 ∙ ap sumOf (c .before .before .before .before .before .place-at .ensures))) ∙ c .before .before .if1 .left in
+    rw d (c .is-fine .ensures ∙ ap isFine (c .before .bottleneck-rate .ensures .0 ∙ ap B (c .before .before .before .before .before .place-at .ensures)))
 
 pub sum-fits-spec : {M : Type 1} → statement M
 sum-fits-spec =

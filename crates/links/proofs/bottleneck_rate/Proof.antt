@@ -3,7 +3,8 @@
 use mathlib.Core.Path.{subst, sym}
 use Prim.Native.Nat.{ℕ, _≤_}
 use Rattle.sessions.proofs.Counts.{count-most}
-use Rattle.links.specs.Links.{B, TotalSized}
+use Rattle.fractions.proofs.Cases.{said-too}
+use Rattle.links.specs.Links.{B, TotalSized, boundSaid}
 use Rattle.links.proofs.Sizes.{sum-sized}
 use borrow.Author.Needs.{needs}
 use Rattle.links.proofs.bottleneck_rate.Statement.{statement}
@@ -16,11 +17,11 @@ size-requires : tie.Need-size-requires
 size-requires c κs = search needs
 
 bound-from-requires : tie.Need-bound-from-requires
-bound-from-requires c κs = let a = c .before .before in (a .pre .capacity, subst (λ (n : ℕ). n ≤ 32) (sym (c .size .ensures)) (count-most 32 _), subst (TotalSized (a .args .p .link .capacity)) (sym (c .before .sum-of-f .ensures)) (sum-sized _ (a .pre)))
+bound-from-requires c κs = let a = c .before .before in (a .pre .capacity, subst (λ (n : ℕ). n ≤ 32) (sym (c .size .ensures)) (count-most 32 _), subst (TotalSized (a .args .p .link .capacity)) (sym (c .before .sum-of-f .ensures .0)) (sum-sized _ (a .pre)))
 
 returns : tie.Need-returns
 unfolding B
-returns c = rw (← (c .before .before .sum-of-f .ensures), ← (c .before .size .ensures)) (c .bound-from .ensures)
+returns c = said-too boundSaid (rw (← (c .before .before .sum-of-f .ensures .0), ← (c .before .size .ensures)) (c .bound-from .ensures))
 
 pub bottleneck-rate-spec : {M : Type 1} → statement M
 bottleneck-rate-spec =

@@ -34,7 +34,7 @@ returns : tie.Need-returns
 returns c = rw (c .before .before .total .given .1) (sym (bound-none _ _ _ (c .if1 .taken)))
 
 returns-2 : tie.Need-returns-2
-returns-2 c = rw (c .before .before .before .before .total .given .1) (c .as-bound .ensures ∙ (ap asBound (c .before .share .ensures) ∙ sym (bound-some _ _ _ (omega arith))))
+returns-2 c = rw (c .before .before .before .before .total .given .1) (c .as-bound .ensures ∙ (ap asBound (c .before .share .ensures .0) ∙ sym (bound-some _ _ _ (omega arith))))
 
 returns-3 : tie.Need-returns-3
 unfolding boundOf

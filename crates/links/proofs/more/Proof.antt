@@ -16,7 +16,7 @@ plus-requires : tie.Need-plus-requires
 plus-requires c κs = (to-limit (sized-more (c .before .before .before .pre .0) (subst (TotalSized (c .before .before .before .args .capacity)) (c .before .total .given .1) (c .before .before .before .pre .1))), to-limit (c .before .before .before .pre .2))
 
 up-to-requires : tie.Need-up-to-requires
-up-to-requires c κs = (c .before .before .before .before .pre .0, subst SumSized (sym (c .plus .ensures)) (two-sized (sized-more (c .before .before .before .before .pre .0) (subst (TotalSized (c .before .before .before .before .args .capacity)) (c .before .before .total .given .1) (c .before .before .before .before .pre .1))) (c .before .before .before .before .pre .2)))
+up-to-requires c κs = (c .before .before .before .before .pre .0, subst SumSized (sym (c .plus .ensures .0)) (two-sized (sized-more (c .before .before .before .before .pre .0) (subst (TotalSized (c .before .before .before .before .args .capacity)) (c .before .before .total .given .1) (c .before .before .before .before .pre .1))) (c .before .before .before .before .pre .2)))
 
 enum-told : tie.Need-enum-told
 enum-told c = search needs
@@ -26,7 +26,7 @@ enum-told-2 c = search needs
 
 returns : tie.Need-returns
 unfolding moreOf
-returns c = rw (c .before .before .before .total .given .1, ← (c .before .plus .ensures)) (c .up-to .ensures)
+returns c = rw (c .before .before .before .total .given .1, ← (c .before .plus .ensures .0)) (c .up-to .ensures)
 
 returns-2 : tie.Need-returns-2
 unfolding moreOf

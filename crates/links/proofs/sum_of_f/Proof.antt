@@ -10,7 +10,8 @@ use lib.Dec.{lit≤}
 use Rattle.fractions.proofs.Ranges.{whole-sized}
 use Rattle.sessions.specs.Set.{members, walk}
 use Rattle.sessions.proofs.Walks.{next-below, next-less, walk-end, walk-turn}
-use Rattle.links.specs.Links.{TotalSized, moreOf, rateAt, sumOf}
+use Rattle.fractions.proofs.Cases.{said-too}
+use Rattle.links.specs.Links.{TotalSized, moreOf, rateAt, sumOf, totalSaid}
 use Rattle.links.proofs.Sizes.{more-sized}
 use borrow.Author.Needs.{needs}
 use Rattle.links.proofs.sum_of_f.Statement.{statement}
@@ -67,7 +68,7 @@ loop-again c = (
 )
 
 returns : tie.Need-returns Inv-loop μ-loop
-returns c = sym (walk-end _ 32 (c .before .loop .total) (c .before .loop .left) (c .loop-test .left)) ∙ c .before .loop .inv .2
+returns c = said-too totalSaid (sym (walk-end _ 32 (c .before .loop .total) (c .before .loop .left) (c .loop-test .left)) ∙ c .before .loop .inv .2)
 
 pub sum-of-f-spec : {M : Type 1} → statement M
 sum-of-f-spec =

@@ -31,7 +31,7 @@ updating-requires c κs = search needs
 
 returns : tie.Need-returns
 unfolding freedOf
-returns c = rw (← (c .before .before .before .before .before .before .cut .ensures), ← (c .before .before .before .before .before .put .ensures), ← (c .before .before .before .before .with-words .ensures), ← (c .before .before .before .those .ensures), ← (c .before .before .bottleneck-rate .ensures), ← (c .before .is-fine .ensures)) (c .updating .ensures)
+returns c = rw (← (c .before .before .before .before .before .before .cut .ensures), ← (c .before .before .before .before .before .put .ensures), ← (c .before .before .before .before .with-words .ensures), ← (c .before .before .before .those .ensures), ← (c .before .before .bottleneck-rate .ensures .0), ← (c .before .is-fine .ensures)) (c .updating .ensures)
 
 pub freed-spec : {M : Type 1} → statement M
 freed-spec =

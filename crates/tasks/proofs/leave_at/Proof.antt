@@ -16,7 +16,7 @@ cut-requires : tie.Need-cut-requires
 cut-requires c κs = search needs
 
 those-requires : tie.Need-those-requires
-those-requires c κs = (subst BoundSized (sym (c .before .bottleneck-rate .ensures)) (B-sized _ (c .before .before .pre .1)), c .before .before .pre .1 .rates)
+those-requires c κs = (subst BoundSized (sym (c .before .bottleneck-rate .ensures .0)) (B-sized _ (c .before .before .pre .1)), c .before .before .pre .1 .rates)
 
 without-requires : tie.Need-without-requires
 without-requires c κs = search needs
@@ -32,7 +32,7 @@ updating-requires c κs = search needs
 
 returns : tie.Need-returns
 unfolding leaveOf
-returns c = rw (← (c .before .before .before .before .before .before .bottleneck-rate .ensures), ← (c .before .before .before .before .before .cut .ensures), ← (c .before .before .before .before .those .ensures), ← (c .before .before .before .without .ensures), ← (c .before .before .bottleneck-rate2 .ensures), ← (c .before .both-fine .ensures)) (c .updating .ensures)
+returns c = rw (← (c .before .before .before .before .before .before .bottleneck-rate .ensures .0), ← (c .before .before .before .before .before .cut .ensures), ← (c .before .before .before .before .those .ensures), ← (c .before .before .before .without .ensures), ← (c .before .before .bottleneck-rate2 .ensures .0), ← (c .before .both-fine .ensures)) (c .updating .ensures)
 
 pub leave-at-spec : {M : Type 1} → statement M
 leave-at-spec =

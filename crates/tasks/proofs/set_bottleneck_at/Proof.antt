@@ -15,41 +15,41 @@ is-fine-requires : tie.Need-is-fine-requires
 is-fine-requires c κs = search needs
 
 all-at-b-requires : tie.Need-all-at-b-requires
-all-at-b-requires c κs = (subst BoundSized (sym (c .before .bottleneck-rate .ensures)) (B-sized _ (c .before .before .pre .1)), c .before .before .pre .1 .rates)
+all-at-b-requires c κs = (subst BoundSized (sym (c .before .bottleneck-rate .ensures .0)) (B-sized _ (c .before .before .pre .1)), c .before .before .pre .1 .rates)
 
 quietly-requires : tie.Need-quietly-requires
 quietly-requires c κs = search needs
 
 returns : tie.Need-returns
 unfolding setBottleneckOf
-returns c = rw (← (c .before .before .before .before .bottleneck-rate .ensures), ← (c .before .before .all-at-b .ensures), c .before .if1 .taken, ← (c .before .before .before .is-fine .ensures)) (c .quietly .ensures)
+returns c = rw (← (c .before .before .before .before .bottleneck-rate .ensures .0), ← (c .before .before .all-at-b .ensures), c .before .if1 .taken, ← (c .before .before .before .is-fine .ensures)) (c .quietly .ensures)
 
 idle-below-b-requires : tie.Need-idle-below-b-requires
-idle-below-b-requires c κs = (c .before .before .before .before .pre .0, subst BoundSized (sym (c .before .before .before .bottleneck-rate .ensures)) (B-sized _ (c .before .before .before .before .pre .1)), c .before .before .before .before .pre .1 .rates)
+idle-below-b-requires c κs = (c .before .before .before .before .pre .0, subst BoundSized (sym (c .before .before .before .bottleneck-rate .ensures .0)) (B-sized _ (c .before .before .before .before .pre .1)), c .before .before .before .before .pre .1 .rates)
 
 freed-requires : tie.Need-freed-requires
-freed-requires c κs = (c .before .before .before .before .before .before .pre .0, subst BoundSized (sym (c .before .before .before .before .before .bottleneck-rate .ensures)) (B-sized _ (c .before .before .before .before .before .before .pre .1)), c .before .before .before .before .before .before .pre .1)
+freed-requires c κs = (c .before .before .before .before .before .before .pre .0, subst BoundSized (sym (c .before .before .before .before .before .bottleneck-rate .ensures .0)) (B-sized _ (c .before .before .before .before .before .before .pre .1)), c .before .before .before .before .before .before .pre .1)
 
 returns-2 : tie.Need-returns-2
 unfolding setBottleneckOf
-returns-2 c = rw (← (c .before .before .before .before .before .before .bottleneck-rate .ensures), ← (c .before .before .before .before .all-at-b .ensures), c .before .before .before .if1 .left, ← (c .before .before .idle-below-b .ensures), c .before .if2 .taken) (c .freed .ensures)
+returns-2 c = rw (← (c .before .before .before .before .before .before .bottleneck-rate .ensures .0), ← (c .before .before .before .before .all-at-b .ensures), c .before .before .before .if1 .left, ← (c .before .before .idle-below-b .ensures), c .before .if2 .taken) (c .freed .ensures)
 
 idle-at-b-requires : tie.Need-idle-at-b-requires
-idle-at-b-requires c κs = (c .before .before .before .before .before .before .pre .0, subst BoundSized (sym (c .before .before .before .before .before .bottleneck-rate .ensures)) (B-sized _ (c .before .before .before .before .before .before .pre .1)), c .before .before .before .before .before .before .pre .1 .rates)
+idle-at-b-requires c κs = (c .before .before .before .before .before .before .pre .0, subst BoundSized (sym (c .before .before .before .before .before .bottleneck-rate .ensures .0)) (B-sized _ (c .before .before .before .before .before .before .pre .1)), c .before .before .before .before .before .before .pre .1 .rates)
 
 quietly-requires-2 : tie.Need-quietly-requires-2
 quietly-requires-2 c κs = search needs
 
 returns-3 : tie.Need-returns-3
 unfolding setBottleneckOf
-returns-3 c = rw (← (c .before .before .before .before .before .before .before .before .bottleneck-rate .ensures), ← (c .before .before .before .before .before .before .all-at-b .ensures), c .before .before .before .before .before .if1 .left, ← (c .before .before .before .before .idle-below-b .ensures), c .before .before .before .if2 .left, ← (c .before .before .idle-at-b .ensures), c .before .if3 .taken, ← (c .before .before .before .before .before .before .before .is-fine .ensures)) (c .quietly2 .ensures)
+returns-3 c = rw (← (c .before .before .before .before .before .before .before .before .bottleneck-rate .ensures .0), ← (c .before .before .before .before .before .before .all-at-b .ensures), c .before .before .before .before .before .if1 .left, ← (c .before .before .before .before .idle-below-b .ensures), c .before .before .before .if2 .left, ← (c .before .before .idle-at-b .ensures), c .before .if3 .taken, ← (c .before .before .before .before .before .before .before .is-fine .ensures)) (c .quietly2 .ensures)
 
 quietly-requires-3 : tie.Need-quietly-requires-3
 quietly-requires-3 c κs = search needs
 
 returns-4 : tie.Need-returns-4
 unfolding setBottleneckOf
-returns-4 c = rw (← (c .before .before .before .before .before .before .before .before .bottleneck-rate .ensures), ← (c .before .before .before .before .before .before .all-at-b .ensures), c .before .before .before .before .before .if1 .left, ← (c .before .before .before .before .idle-below-b .ensures), c .before .before .before .if2 .left, ← (c .before .before .idle-at-b .ensures), c .before .if3 .left, ← (c .before .before .before .before .before .before .before .is-fine .ensures)) (c .quietly3 .ensures)
+returns-4 c = rw (← (c .before .before .before .before .before .before .before .before .bottleneck-rate .ensures .0), ← (c .before .before .before .before .before .before .all-at-b .ensures), c .before .before .before .before .before .if1 .left, ← (c .before .before .before .before .idle-below-b .ensures), c .before .before .before .if2 .left, ← (c .before .before .idle-at-b .ensures), c .before .if3 .left, ← (c .before .before .before .before .before .before .before .is-fine .ensures)) (c .quietly3 .ensures)
 
 pub set-bottleneck-at-spec : {M : Type 1} → statement M
 set-bottleneck-at-spec =

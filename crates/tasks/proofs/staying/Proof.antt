@@ -12,10 +12,10 @@ bottleneck-rate-requires : tie.Need-bottleneck-rate-requires
 bottleneck-rate-requires c κs = search needs
 
 lowered-requires : tie.Need-lowered-requires
-lowered-requires c κs = (subst BoundSized (sym (c .bottleneck-rate .ensures)) (B-sized _ (c .before .pre .1)), c .before .pre .0)
+lowered-requires c κs = (subst BoundSized (sym (c .bottleneck-rate .ensures .0)) (B-sized _ (c .before .pre .1)), c .before .pre .0)
 
 named-requires : tie.Need-named-requires
-named-requires c κs = (subst BoundSized (sym (c .before .bottleneck-rate .ensures)) (B-sized _ (c .before .before .pre .1)), c .before .before .pre .0)
+named-requires c κs = (subst BoundSized (sym (c .before .bottleneck-rate .ensures .0)) (B-sized _ (c .before .before .pre .1)), c .before .before .pre .0)
 
 is-fine-requires : tie.Need-is-fine-requires
 is-fine-requires c κs = search needs
@@ -25,7 +25,7 @@ quietly-requires c κs = search needs
 
 returns : tie.Need-returns
 unfolding stayingOf
-returns c = rw (← (c .before .before .before .before .bottleneck-rate .ensures), ← (c .before .before .before .lowered .ensures), ← (c .before .before .named .ensures), ← (c .before .is-fine .ensures)) (c .quietly .ensures)
+returns c = rw (← (c .before .before .before .before .bottleneck-rate .ensures .0), ← (c .before .before .before .lowered .ensures), ← (c .before .before .named .ensures), ← (c .before .is-fine .ensures)) (c .quietly .ensures)
 
 pub staying-spec : {M : Type 1} → statement M
 staying-spec =

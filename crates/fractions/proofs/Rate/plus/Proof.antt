@@ -4,8 +4,9 @@ use borrow.Author.Needs.{needs}
 use mathlib.Core.Path.{_≡_, ap, sym, _∙_}
 use native.Mathlib.Nat.{mul-pos, mul-le-mul}
 use native.Mathlib.Omega.{arith}
-use Rattle.fractions.specs.Fraction.{fineOf, plusOf, addOf}
+use Rattle.fractions.specs.Fraction.{fineOf, plusOf, addOf, sumSaid}
 use Rattle.fractions.specs.declared.Sum.the-variants as sum
+use Rattle.fractions.proofs.Cases.{said-too}
 use Rattle.fractions.proofs.Ranges.{cross-fits}
 use Rattle.fractions.proofs.Rate.plus.Statement.{statement}
 use Rattle.fractions.proofs.Rate.plus.Tie as tie
@@ -36,12 +37,12 @@ is-fine-requires c κs = search needs
 returns : tie.Need-returns
 unfolding plusOf
 returns c = let e = added (c .before .before) in
-    rw (sym (ap fineOf e) ∙ (sym (c .before .is-fine .ensures) ∙ c .if1 .taken)) (ap sum.Rate e)
+    said-too sumSaid (rw (sym (ap fineOf e) ∙ (sym (c .before .is-fine .ensures) ∙ c .if1 .taken)) (ap sum.Rate e))
 
 returns-2 : tie.Need-returns-2
 unfolding plusOf
 returns-2 c = let e = added (c .before .before) in
-    rw (sym (ap fineOf e) ∙ (sym (c .before .is-fine .ensures) ∙ c .if1 .left))
+    said-too sumSaid (rw (sym (ap fineOf e) ∙ (sym (c .before .is-fine .ensures) ∙ c .if1 .left)))
 
 pub plus-spec : {M : Type 1} → statement M
 plus-spec =

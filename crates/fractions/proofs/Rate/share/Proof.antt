@@ -5,9 +5,10 @@ use mathlib.Core.Path.{_≡_, ap, sym, subst, _∙_}
 use native.Mathlib.Nat.{mul-pos}
 use native.Mathlib.Omega.{arith}
 use Prim.Native.Nat.{_-_, _*_, _≤_, _<_}
-use Rattle.fractions.specs.Fraction.{amongOf, eachOf, fineOf, leftOf, lowestOf, maxDen, shareOf}
+use Rattle.fractions.specs.Fraction.{amongOf, eachOf, fineOf, leftOf, lowestOf, maxDen, shareOf, shareSaid}
 use Rattle.fractions.specs.declared.Part.{Part}
 use Rattle.fractions.specs.declared.Share.the-variants as share
+use Rattle.fractions.proofs.Cases.{said-too}
 use Rattle.fractions.proofs.Rate.share.Statement.{statement}
 use Rattle.fractions.proofs.Rate.share.Tie as tie
 
@@ -37,12 +38,12 @@ is-fine-requires c κs = search needs
 returns : tie.Need-returns
 unfolding shareOf eachOf
 returns c = let e = each (c .before .before) in
-    rw (sym (ap fineOf e) ∙ (sym (c .before .is-fine .ensures) ∙ c .if1 .taken)) (ap share.Rate e)
+    said-too shareSaid (rw (sym (ap fineOf e) ∙ (sym (c .before .is-fine .ensures) ∙ c .if1 .taken)) (ap share.Rate e))
 
 returns-2 : tie.Need-returns-2
 unfolding shareOf eachOf
 returns-2 c = let e = each (c .before .before) in
-    rw (sym (ap fineOf e) ∙ (sym (c .before .is-fine .ensures) ∙ c .if1 .left))
+    said-too shareSaid (rw (sym (ap fineOf e) ∙ (sym (c .before .is-fine .ensures) ∙ c .if1 .left)))
 
 pub share-spec : {M : Type 1} → statement M
 share-spec =
