@@ -139,14 +139,86 @@ fn too_fine() {
     packet(card_of(1, 2, 1, a), 2, Kind::Join(Rate::whole(1), Eta::Own));
 }
 
-// So does refusal 14.
+// So does refusal 14: a field out of its range.
 fn out_of_range() {
     let mut a = lent::no_entries();
     says::text(b"a packet of session 32:");
     packet(card_of(1, 2, 1, a), 32, Kind::Leave);
+    says::text(b"a join with a rate of 2/2:");
+    packet(
+        card_of(1, 2, 1, a),
+        2,
+        Kind::Join(Rate { num: 2, den: 2 }, Eta::Own),
+    );
     a[3] = idle(2, 2);
     says::text(b"F check with a rate of 2/2:");
     check(card_of(1, 2, 1, a));
+}
+
+// A capacity over 1,000,000, and the highest that is taken.
+fn too_wide() {
+    let a = lent::no_entries();
+    says::text(b"leave of 0, capacity 1000001:");
+    packet(card_of(1000001, 1, 0, a), 0, Kind::Leave);
+    says::text(b"leave of 0, capacity 1000000:");
+    packet(card_of(1000000, 1, 0, a), 0, Kind::Leave);
+}
+
+// A session in both R and F, and the same link with it in F alone.
+fn not_apart() {
+    let mut a = lent::no_entries();
+    a[0] = idle(3, 1);
+    a[1] = idle(7, 1);
+    says::text(b"leave of 1, 0 in R and F:");
+    packet(card_of(10, 3, 1, a), 1, Kind::Leave);
+    says::text(b"leave of 1, 0 in F:");
+    packet(card_of(10, 2, 1, a), 1, Kind::Leave);
+    says::text(b"F check, 0 in R and F:");
+    check(card_of(10, 3, 1, a));
+    says::text(b"F check, 0 in F:");
+    check(card_of(10, 2, 1, a));
+}
+
+// An F that sums past C, and one that sums to C.
+fn past_c() {
+    let mut a = lent::no_entries();
+    a[0] = idle(5, 1);
+    a[1] = idle(6, 1);
+    says::text(b"update of 2, F sums to 11 of 10:");
+    packet(card_of(10, 4, 3, a), 2, Kind::Update);
+    says::text(b"F check, F sums to 11 of 10:");
+    check(card_of(10, 4, 3, a));
+    a[1] = idle(5, 1);
+    says::text(b"update of 2, F sums to 10 of 10:");
+    packet(card_of(10, 4, 3, a), 2, Kind::Update);
+    says::text(b"F check, F sums to 10 of 10:");
+    check(card_of(10, 4, 3, a));
+}
+
+// A B that is too fine before the packet comes, and one that is just fine. A session in both R and F comes before a B that is too fine.
+fn fine_before() {
+    let mut a = lent::no_entries();
+    a[0] = idle(1, 1048576);
+    says::text(b"leave of 1, B too fine before:");
+    packet(card_of(1, 6, 1, a), 1, Kind::Leave);
+    says::text(b"leave of 1, B 1048575/1048576 before:");
+    packet(card_of(1, 2, 1, a), 1, Kind::Leave);
+    says::text(b"F check, 0 in R and F and B too fine:");
+    check(card_of(1, 3, 1, a));
+}
+
+// A sum that is too fine: 14 before a packet, 12 of the F check. And one that is fine.
+fn sum_before() {
+    let mut a = lent::no_entries();
+    a[0] = idle(1, 1048576);
+    a[1] = idle(1, 1048575);
+    says::text(b"update of 2, which is not there, sum too fine:");
+    packet(card_of(1, 0, 3, a), 2, Kind::Update);
+    says::text(b"F check, sum too fine:");
+    check(card_of(1, 0, 3, a));
+    a[1] = idle(1, 1048576);
+    says::text(b"update of 2, which is not there, sum fine:");
+    packet(card_of(1, 0, 3, a), 2, Kind::Update);
 }
 
 fn main() {
@@ -158,4 +230,9 @@ fn main() {
     checks();
     too_fine();
     out_of_range();
+    too_wide();
+    not_apart();
+    past_c();
+    fine_before();
+    sum_before();
 }

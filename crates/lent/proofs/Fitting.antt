@@ -16,16 +16,20 @@ use Rattle.records.proofs.Alls.{all-at}
 use Rattle.tasks.specs.declared.Kind.{Kind}
 use Rattle.tasks.specs.declared.Kind.the-variants as kind
 use Rattle.tasks.specs.Figure2.{KindSized}
-use Rattle.lent.specs.Lent.{fits, kindFits, placeOf, ratesFit, stepFits}
+use Rattle.lent.specs.Lent.{fits, inRange, kindFits, placeOf, ratesFit, stepFits}
 
-pub fits-workable : (l : Link) (es : List Entry) → length es ≡ 32 → fits l es ≡ true → Workable (placeOf l es)
-unfolding fits ratesFit
-fits-workable l es n h =
+pub range-workable : (l : Link) (es : List Entry) → length es ≡ 32 → inRange l es ≡ true → Workable (placeOf l es)
+unfolding inRange ratesFit
+range-workable l es n h =
     let b = and-both _ _ h in
     record {
       capacity = leb-true _ _ (b .0);
       rates = record { many = n; sized = λ s k. within-sized (is-rate-within (all-at 32 _ s (b .1) k)) };
     }
+
+pub fits-workable : (l : Link) (es : List Entry) → length es ≡ 32 → fits l es ≡ true → Workable (placeOf l es)
+unfolding fits
+fits-workable l es n h = range-workable l es n (and-both _ _ h .0)
 
 kind-sized : (k : Kind) → kindFits k ≡ true → KindSized k
 kind-sized (kind.Join x η) h = within-sized (is-rate-within h)
@@ -42,4 +46,4 @@ unfolding stepFits
 step-fits-all s k l es n h =
     let b = and-both _ _ h in
     let r = and-both _ _ (b .1) in
-    (ltb-true _ _ (b .0), kind-sized k (r .0), fits-workable l es n (r .1))
+    (ltb-true _ _ (b .0), kind-sized k (r .0), fits-workable l es n (and-both _ _ (r .1) .0))

@@ -1,4 +1,5 @@
 -- Laws of lent. A crate above cites them as Rattle.lent.proofs.NAME.
+pub mod Both
 pub mod Calls
 pub mod Fitting
 pub mod Whole

@@ -2,7 +2,7 @@
 -- to the step and updated by it." What the two answer and what stands behind the references after them, for slices of every length: the link's
 -- entries are the first 32 places, and those after them are left alone.
 -- Assumes nothing: definitions.
-use mathlib.Core.Bool.{Bool, cond, true, _&&_}
+use mathlib.Core.Bool.{Bool, cond, not, true, _&&_}
 use mathlib.Core.List.{List, _++_}
 use Prim.Native.Nat.{ℕ}
 use lib.Dec.{leb, ltb}
@@ -17,7 +17,8 @@ use Rattle.links.specs.declared.Link.{Link}
 use Rattle.links.specs.declared.Place.{Place}
 use Rattle.links.specs.declared.Processed.{Processed}
 use Rattle.links.specs.FCheck.{processOf}
-use Rattle.links.specs.Links.{isFine, noEntry}
+use Rattle.links.specs.Links.{B, isFine, isPastC, noEntry, sumOf}
+use Rattle.sessions.specs.Set.{hasOf}
 use Rattle.tasks.specs.declared.Did.{Did}
 use Rattle.tasks.specs.declared.Kind.{Kind}
 use Rattle.tasks.specs.declared.Kind.the-variants as kind
@@ -40,8 +41,16 @@ unfoldable pub ratesFit : List Entry → Bool
 ratesFit es = all 32 (λ s. isRateOf (getD es s noEntry .rate))
 
 -- and the link's capacity: at most 1,000,000 (0, of a link that is not declared, is taken)
+unfoldable pub inRange : Link → List Entry → Bool
+inRange l es = leb (l .capacity) maxRate && ratesFit es
+
+-- not "a session in both R and F of a link"
+unfoldable pub apart : Link → Bool
+apart l = all 32 (λ s. not (hasOf s (l .r) && hasOf s (l .f)))
+
+-- nor "a link whose F sums past C": what both forms ask of the link and its entries
 unfoldable pub fits : Link → List Entry → Bool
-fits l es = leb (l .capacity) maxRate && ratesFit es
+fits l es = inRange l es && (apart l && not (isPastC (sumOf (placeOf l es))))
 
 -- of a packet: the rate that it carries, where it carries one
 abbrev pub kindFits : Kind → Bool
@@ -53,9 +62,9 @@ kindFits kind.Bottleneck = true
 kindFits (kind.SetBottleneck β) = true
 kindFits kind.Leave = true
 
--- and its session, with the link and its entries
+-- and its session, with the link and its entries; and not "a link .. whose sums or B meet 12", before the step
 unfoldable pub stepFits : ℕ → Kind → Link → List Entry → Bool
-stepFits s k l es = ltb s 32 && (kindFits k && fits l es)
+stepFits s k l es = ltb s 32 && (kindFits k && (fits l es && isFine (B (placeOf l es))))
 
 -- THE F CHECK ---------------------------------------------------------------------------------------------------------
 
@@ -87,8 +96,8 @@ checkNumber (checked.Refused r) = numberOf r
 abbrev pub stepRefused : Refusal → Link → List Entry → Stepping
 stepRefused r l es = record { link = l; entries = es; answer = stepped.Refused r }
 
--- 001, Figure 2, worked out as d; where a sum or B that it reads, or that its change makes, is too fine, refusal 12. A link that was too fine before and
--- that the rule does not read is not refused: for the machine the test of 14 comes before
+-- 001, Figure 2, worked out as d; where a sum or B that it reads, or that its change makes, is too fine, refusal 12. The sums and B of the link before
+-- it are fine by 14
 abbrev pub steppedOf : Did → Link → List Entry → Stepping
 steppedOf d l es =
     cond (d .fine)

@@ -7,7 +7,7 @@ ghost use lib.ListN.{drop, length, replicate, take};
 ghost use Rattle.fractions.specs.Fraction.{zeroOf};
 ghost use Rattle.links.specs.Links.{entry};
 ghost use Rattle.links.specs.declared.Mu.the-variants as mu;
-ghost use Rattle.lent.specs.Lent.{checkNumber, checkRefused, fCheckOf, fits, kindFits, ratesFit, stepFits, stepLinkOf, stepNumber, stepRefused};
+ghost use Rattle.lent.specs.Lent.{apart, checkNumber, checkRefused, fCheckOf, fits, inRange, kindFits, ratesFit, stepFits, stepLinkOf, stepNumber, stepRefused};
 use fractions::Rate;
 use links::Bound;
 use links::Entry;
@@ -71,10 +71,36 @@ fn rates_fit(entries: [Entry; 32]) -> bool
 }
 
 // Whether the capacity is within its limit too.
+fn in_range(link: Link, entries: [Entry; 32]) -> bool
+    ensures { λ r. ⌜ r ≡ inRange link entries ⌝ }
+{
+    link.capacity <= Rate::MAX && rates_fit(entries)
+}
+
+// Whether no session is in both R and F.
+fn apart(link: Link) -> bool
+    ensures { λ r. ⌜ r ≡ apart link ⌝ }
+{
+    let both = link.r & link.f;
+    both == 0
+}
+
+// Whether, besides, F sums to no more than the capacity.
 fn fits(link: Link, entries: [Entry; 32]) -> bool
     ensures { λ r. ⌜ r ≡ fits link entries ⌝ }
 {
-    link.capacity <= Rate::MAX && rates_fit(entries)
+    if !in_range(link, entries) {
+        return false;
+    }
+    if !apart(link) {
+        return false;
+    }
+    let p = Place {
+        link: link,
+        entries: entries,
+    };
+    let total = links::sum_of_f(p);
+    !links::is_past_c(total)
 }
 
 // Whether the rate that a packet carries is one.
@@ -129,7 +155,7 @@ fn check(link: Link, entries: [Entry; 32]) -> Checking
     }
 }
 
-// Whether the packet, the link and its entries fit.
+// Whether the packet, the link and its entries fit, and the link's own sums and B are fine.
 fn step_fits(s: u32, kind: Kind, link: Link, entries: [Entry; 32]) -> bool
     ensures { λ r. ⌜ r ≡ stepFits s kind link entries ⌝ }
 {
@@ -139,7 +165,15 @@ fn step_fits(s: u32, kind: Kind, link: Link, entries: [Entry; 32]) -> bool
     if !kind_fits(kind) {
         return false;
     }
-    fits(link, entries)
+    if !fits(link, entries) {
+        return false;
+    }
+    let p = Place {
+        link: link,
+        entries: entries,
+    };
+    let b = links::bottleneck_rate(p);
+    links::is_fine(b)
 }
 
 // A refusal of the step, likewise.

@@ -89,6 +89,12 @@ moreOf c total.PastC x = total.PastC
 unfoldable pub sumOf : Place → Total
 sumOf p = walk (λ a s. moreOf (p .link .capacity) a (rateAt p s)) (total.Rate zeroOf) (members (F p))
 
+-- refusal 14: "a link whose F sums past C"
+abbrev pub isPastC : Total → Bool
+isPastC (total.Rate y) = false
+isPastC total.TooFine = false
+isPastC total.PastC = true
+
 -- B -------------------------------------------------------------------------------------------------------------------
 
 abbrev pub asBound : Share → Bound

@@ -8,7 +8,7 @@ ghost use Prim.Native.Nat.{ℕ, _≤_, _<_};
 ghost use Rattle.fractions.specs.Fraction.{Sized, maxRate};
 ghost use Rattle.sessions.specs.Set.{put};
 ghost use Rattle.links.specs.FCheck.{checkOf, checkedOf, higherOf, highestOf, processOf, turnOf};
-ghost use Rattle.links.specs.Links.{B, BoundSized, Rates, SumSized, TotalSized, WantedSized, Workable, aboveB, allAtB, asBound, atLeastB, atMostB, belowB, boundOf, equalsB, holds, isFine, isIdle, meetsOf, moreOf, sumOf, thoseOf, uptoOf, waitingOf, withEntry, withMu, withWords, totalSaid, boundSaid};
+ghost use Rattle.links.specs.Links.{B, BoundSized, Rates, SumSized, TotalSized, WantedSized, Workable, aboveB, allAtB, asBound, atLeastB, atMostB, belowB, boundOf, equalsB, holds, isFine, isIdle, isPastC, meetsOf, moreOf, sumOf, thoseOf, uptoOf, waitingOf, withEntry, withMu, withWords, totalSaid, boundSaid};
 
 // The state of a session at a link or at its source.
 pub enum Mu {
@@ -170,6 +170,17 @@ pub fn sum_of_f(p: Place) -> Total
         left = sessions::cut(left, s);
     }
     total
+}
+
+// Whether it is past the capacity.
+pub fn is_past_c(total: Total) -> bool
+    ensures { λ r. ⌜ r ≡ isPastC total ⌝ }
+{
+    match total {
+        Total::Rate(y) => false,
+        Total::TooFine => false,
+        Total::PastC => true,
+    }
 }
 
 // A link's share as its B.
