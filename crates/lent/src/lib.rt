@@ -200,7 +200,7 @@ fn step(e: u32, s: u32, kind: Kind, link: Link, entries: [Entry; 32]) -> Steppin
     };
     let d = tasks::link_step(e, s, kind, p);
     let next = d.place;
-    let l = next.link;
+    let new_link = next.link;
     let a = next.entries;
     if !d.fine {
         return step_refused(Refusal::TooFine, link, entries);
@@ -208,7 +208,7 @@ fn step(e: u32, s: u32, kind: Kind, link: Link, entries: [Entry; 32]) -> Steppin
     let burst = d.burst;
     let on = d.on;
     Stepping {
-        link: l,
+        link: new_link,
         entries: a,
         answer: Stepped::Done {
             burst: burst,
@@ -239,10 +239,10 @@ fn store(entries: &mut [Entry], a: [Entry; 32])
     requires { ⌜ 32 ≤ length (now entries) ⌝ }
     ensures { λ _. ⌜ now (entries .exit) ≡ a ++ drop 32 (now (entries .entry)) ⌝ }
 {
-    let mut i: usize = 0;
-    while i < 32 {
-        entries[i] = a[i];
-        i += 1;
+    let mut k: usize = 0;
+    while k < 32 {
+        entries[k] = a[k];
+        k += 1;
     }
 }
 
