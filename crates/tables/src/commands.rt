@@ -3,7 +3,6 @@ use super::names;
 use super::says;
 use super::says::text;
 use super::scan;
-use machine::Ran;
 use records::End;
 
 // Each place of the list of packets takes the words of the one before it, so the first packet stands at all 256.
@@ -31,14 +30,24 @@ fn hand(t: &mut [u64; 9153]) {
     let nothing = [0u8; 1];
     let before = *t;
     let x = machine::run(t, &nothing[..0]);
-    says::ran(x);
+    let end = x.end;
+    says::ran(x.taken, end);
     says::settled(t);
     says::same(t, &before);
 }
 
-// Whether a run took all its records.
-fn is_finished(x: Ran) -> bool {
+// Runs the first n bytes of an input: with `run` what the run says is printed, else they are all to be taken.
+fn play_input(t: &mut [u64; 9153], name: u64, input: &[u8; 65536], n: usize) -> bool {
+    let s: &[u8] = input;
+    if s.len() < n {
+        return false;
+    }
+    let x = machine::run(t, &s[0..n]);
     let end = x.end;
+    if name == names::RUN {
+        says::ran(x.taken, end);
+        return true;
+    }
     match end {
         End::Finished => true,
         End::Refused {
@@ -46,20 +55,6 @@ fn is_finished(x: Ran) -> bool {
             place: _,
         } => false,
     }
-}
-
-// Runs the first n bytes of an input: with `take` they are all to be taken, else what the run says is printed.
-fn play_input(t: &mut [u64; 9153], name: u64, input: &[u8; 65536], n: usize) -> bool {
-    let s: &[u8] = input;
-    if s.len() < n {
-        return false;
-    }
-    let x = machine::run(t, &s[0..n]);
-    if name == names::TAKE {
-        return is_finished(x);
-    }
-    says::ran(x);
-    true
 }
 
 // `take RECORDS`, `run RECORDS`.
@@ -91,7 +86,7 @@ fn play_put(t: &mut [u64; 9153], name: u64, at: usize, more: &[u8]) -> bool {
     rest.len() == 0
 }
 
-// `zeros NUMBER`, `word WORD TEXT`, `put` and `with`.
+// The commands with a number.
 fn play_number(t: &mut [u64; 9153], name: u64, more: &[u8]) -> bool {
     let x = scan::word(more);
     let next = x.next;
@@ -100,15 +95,9 @@ fn play_number(t: &mut [u64; 9153], name: u64, more: &[u8]) -> bool {
         return false;
     }
     let at = x.number as usize;
-    if name == names::ZEROS {
-        if rest.len() != 0 {
-            return false;
-        }
+    if name == names::ZEROS && rest.len() == 0 {
         let input = io::large_buffer();
-        return play_input(t, name, &input, at);
-    }
-    if name == names::WORD {
-        return says::word(t, at, rest);
+        return play_input(t, names::RUN, &input, at);
     }
     if name == names::PUT {
         return play_put(t, name, at, rest);
@@ -117,26 +106,6 @@ fn play_number(t: &mut [u64; 9153], name: u64, more: &[u8]) -> bool {
         return play_put(t, name, at, rest);
     }
     false
-}
-
-// The commands with more than a name.
-fn play_more(t: &mut [u64; 9153], name: u64, more: &[u8]) -> bool {
-    if name == names::SAY {
-        text(more);
-        return true;
-    }
-    if name == names::HAND {
-        text(more);
-        hand(t);
-        return true;
-    }
-    if name == names::TAKE {
-        return play_records(t, name, more);
-    }
-    if name == names::RUN {
-        return play_records(t, name, more);
-    }
-    play_number(t, name, more)
 }
 
 // The commands of one word that print.
@@ -151,6 +120,8 @@ fn play_print(t: &[u64; 9153], held: &[u64; 9153], name: u64) -> bool {
     }
     if name == names::TOLD {
         says::told(machine::session_at(t, 0));
+        says::number(b" R ", t[1]);
+        says::number(b" F ", t[2]);
         return true;
     }
     if name == names::SAME {
@@ -195,8 +166,24 @@ pub fn play(t: &mut [u64; 9153], held: &mut [u64; 9153], l: &[u8]) -> bool {
     let x = scan::word(l);
     let next = x.next;
     let more = &l[next..];
+    let name = x.name;
     if more.len() == 0 {
-        return play_alone(t, held, x.name);
+        return play_alone(t, held, name);
     }
-    play_more(t, x.name, more)
+    if name == names::SAY {
+        text(more);
+        return true;
+    }
+    if name == names::HAND {
+        text(more);
+        hand(t);
+        return true;
+    }
+    if name == names::TAKE {
+        return play_records(t, name, more);
+    }
+    if name == names::RUN {
+        return play_records(t, name, more);
+    }
+    play_number(t, name, more)
 }

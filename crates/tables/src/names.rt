@@ -29,8 +29,6 @@ pub const RUN: u64 = 0x72_75_6e;
 
 pub const ZEROS: u64 = 0x7a_65_72_6f_73;
 
-pub const WORD: u64 = 0x77_6f_72_64;
-
 pub const PUT: u64 = 0x70_75_74;
 
 pub const WITH: u64 = 0x77_69_74_68;

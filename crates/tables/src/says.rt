@@ -2,7 +2,6 @@
 // `settled refused R at P`. A table that was to stay and did not is `changed`.
 use ends::Told;
 use libc::STDOUT_FILENO;
-use machine::Ran;
 use machine::Session;
 use machine::SettledAnswer;
 use records::End;
@@ -24,9 +23,8 @@ fn refusal(r: Refusal, place: usize) {
 }
 
 // How many records a run took, and how it ended.
-pub fn ran(x: Ran) {
-    number(b": taken ", x.taken as u64);
-    let end = x.end;
+pub fn ran(taken: usize, end: End) {
+    number(b": taken ", taken as u64);
     match end {
         End::Finished => {}
         End::Refused { refusal: r, place } => refusal(r, place),
@@ -58,17 +56,6 @@ pub fn told(x: Session) {
             }
         },
     }
-}
-
-// A text and one word of the table; answers whether there is such a word.
-pub fn word(t: &[u64; 9153], at: usize, name: &[u8]) -> bool {
-    if 9153 <= at {
-        return false;
-    }
-    text(b" ");
-    text(name);
-    number(b" ", t[at]);
-    true
 }
 
 // The line ends, with `changed` where the table is another than it was to be.
