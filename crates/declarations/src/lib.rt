@@ -9,7 +9,7 @@ ghost use mathlib.Core.Path.{_≡_};
 ghost use Prim.Native.Nat.{_+_, _*_, _≤_, _<_};
 ghost use lib.ListN.{length, replicate};
 ghost use Rattle.records.specs.Format.{readAt, RecordOk};
-ghost use Rattle.records.specs.Run.{judged};
+ghost use Rattle.records.specs.Run.{judged, saidOf};
 ghost use Rattle.records.specs.declared.Call.the-variants as call;
 ghost use Rattle.declarations.specs.Declaring.{ownLimitOf, pathDeclared, judgeOf, linksOf, capacityOf, sessionsOf, accessOf, maximumOf, copied, pathOf, declarationsOf};
 
@@ -228,7 +228,8 @@ fn no_paths() -> [u8; 256]
 
 // All declarations of an input, up to the first record that is refused.
 pub fn declare_all(s: &[u8]) -> Declarations
-    ensures { λ r. ⌜ r ≡ declarationsOf (now (s .entry)) ⌝ }
+    ensures exact { λ r. ⌜ r ≡ declarationsOf (now (s .entry)) ⌝ }
+    ensures said { λ r. ⌜ saidOf (r .taken) (r .end) ≡ saidOf (declarationsOf (now (s .entry)) .taken) (declarationsOf (now (s .entry)) .end) ⌝ }
 {
     let mut links: u64 = 0;
     let mut capacity = no_capacities();

@@ -14,6 +14,7 @@ ghost use Prim.Native.Nat.{ℕ, _+_, _-_, _≤_, _<_};
 ghost use lib.Dec.{ltb};
 ghost use lib.ListN.{length};
 ghost use Rattle.records.specs.Format.{RecordOk};
+ghost use Rattle.records.specs.Run.{verdictNumber};
 ghost use Rattle.records.specs.Limits.{linkLimit, packetLimit};
 ghost use Rattle.table.specs.Values.{PacketInRange};
 ghost use Rattle.table.specs.Words.{countOf, packetOf, putHops, putPath, putPlace, putSource, removed};
@@ -288,7 +289,8 @@ fn change(t: &mut [u64; 9153], x: u32, maximum: u64) -> Verdict
 // What a record does, and whether it is taken: refusals 7 to 13.
 pub fn event(t: &mut [u64; 9153], s: &[u8], x: Record) -> Verdict
     requires { ⌜ RecordOk (now s) x ⌝ }
-    ensures { λ r. ⌜ ended r (now (t .exit)) ≡ eventOf (now (s .entry)) (now (t .entry)) x ⌝ }
+    ensures exact { λ r. ⌜ ended r (now (t .exit)) ≡ eventOf (now (s .entry)) (now (t .entry)) x ⌝ }
+    ensures said { λ r. ⌜ verdictNumber r ≡ verdictNumber (eventOf (now (s .entry)) (now (t .entry)) x .verdict) ⌝ }
 {
     match x {
         Record::Link { link, capacity } => declare(t, link, capacity),

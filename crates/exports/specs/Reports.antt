@@ -8,7 +8,7 @@ use Rattle.machine.specs.Machine as machine
 use Rattle.machine.specs.declared.SettledAnswer.{SettledAnswer}
 use Rattle.machine.specs.declared.SettledAnswer.the-variants as settled
 use Rattle.records.specs.Refusals.{numberOf}
-use Rattle.records.specs.Run.{Ran}
+use Rattle.records.specs.Run as records
 use Rattle.records.specs.declared.End.{End}
 
 -- the calculation: the refusal's number or 0, its place, the declared links, the declared sessions
@@ -19,13 +19,13 @@ abbrev pub calculationReportOf : Calculated → List ℕ
 calculationReportOf a = calculationWords (calculation.saidOf a)
 
 -- a run, which took some records and then ended: the refusal's number or 0, its place, the records taken
-abbrev pub runWords : machine.Said → List ℕ
+abbrev pub runWords : records.Said → List ℕ
 runWords x = x .number ∷ x .place ∷ x .taken ∷ []
 
 abbrev pub endReportOf : ℕ → End → List ℕ
-endReportOf taken e = runWords (machine.saidOf taken e)
+endReportOf taken e = runWords (records.saidOf taken e)
 
-abbrev pub runReportOf : Ran (List ℕ) → List ℕ
+abbrev pub runReportOf : records.Ran (List ℕ) → List ℕ
 runReportOf r = endReportOf (r .taken) (r .end)
 
 -- whether a table is settled: 1 yes, 0 no, or the refusal's number

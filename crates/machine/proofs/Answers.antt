@@ -21,13 +21,13 @@ use Rattle.records.proofs.Somes.{clash}
 use Rattle.machine.specs.declared.Ran.{Ran}
 use Rattle.machine.specs.declared.SettledAnswer.{SettledAnswer}
 use Rattle.machine.specs.declared.SettledAnswer.the-variants as settled
-use Rattle.machine.specs.Machine.{Means, answerOf, machineOf, nothingTaken, ranOf, runOf, saidOf, turnedAway}
+use Rattle.machine.specs.Machine.{Means, answerOf, machineOf, nothingTaken, ranOf, runOf, turnedAway}
 
 -- A RUN ---------------------------------------------------------------------------------------------------------------
 
 -- what a run says, from what it comes to
-pub run-says : (r : Ran) (u : List ℕ) (m : records.Ran (List ℕ)) → ranOf r u ≡ m → saidOf (r .taken) (r .end) ≡ saidOf (m .taken) (m .end)
-run-says r u m e = ap (λ (x : records.Ran (List ℕ)). saidOf (x .taken) (x .end)) e
+pub run-says : (r : Ran) (u : List ℕ) (m : records.Ran (List ℕ)) → ranOf r u ≡ m → records.saidOf (r .taken) (r .end) ≡ records.saidOf (m .taken) (m .end)
+run-says r u m e = ap (λ (x : records.Ran (List ℕ)). records.saidOf (x .taken) (x .end)) e
 
 module _ (w s : List ℕ) (p : Bool) (is : p ≡ passes14Of w) where
   abbrev within : records.Ran (List ℕ)

@@ -11,7 +11,7 @@ use Rattle.fractions.proofs.Cases.{chosen}
 use Rattle.table.specs.Words.{sourceOf}
 use Rattle.machine.specs.declared.Session.{Session}
 use Rattle.machine.specs.declared.Session.the-variants as session
-use Rattle.machine.specs.Machine.{sessionOf, sessionReportOf}
+use Rattle.machine.specs.Machine.{sessionOf}
 
 abbrev shown : Source → Session
 shown z = cond (z .active) (session.Active (z .told)) session.NotActive
@@ -31,7 +31,3 @@ module _ (w : List ℕ) (s : ℕ) where
 
     pub session-active : z .active ≡ true → sessionOf w s ≡ session.Active (z .told)
     session-active e = shows ∙ chosen (z .active) true (session.Active (z .told)) session.NotActive e
-
--- a session that is the one promised has its values too
-pub told-as : {x y : Session} → x ≡ y → (x ≡ y) × (sessionReportOf x ≡ sessionReportOf y)
-told-as e = (e, ap sessionReportOf e)

@@ -83,16 +83,6 @@ unfoldable pub machineOf : List ℕ → List ℕ → records.Ran (List ℕ)
 machineOf w s =
     cond (passes14Of w) (cond (ltb inputLimit (length s)) (turnedAway refusal.TooLong w) (runOf w s)) (turnedAway refusal.BadTable w)
 
--- 01's number and values of how a run ended: 0 at its end, or the number of the refusal with its place; and the records taken
-pub record Said : Type 0 where
-  pub number : ℕ
-  pub place : ℕ
-  pub taken : ℕ
-
-abbrev pub saidOf : ℕ → End → Said
-saidOf n end.Finished = record { number = 0; place = 0; taken = n }
-saidOf n (end.Refused r place) = record { number = numberOf r; place = place; taken = n }
-
 -- SETTLED -------------------------------------------------------------------------------------------------------------
 
 -- the answer; of a table that fails the test of refusal 14 the question is refused

@@ -9,8 +9,9 @@ ghost use mathlib.Core.Path.{_≡_};
 ghost use Prim.Native.Nat.{ℕ, _≤_, _<_};
 ghost use lib.ListN.{length};
 ghost use Rattle.events.specs.Events.{ended};
+ghost use Rattle.records.specs.Run.{saidOf};
 ghost use Rattle.table.specs.Words.{countOf, emptyWords};
-ghost use Rattle.machine.specs.Machine.{Means, answerOf, machineOf, nothingTaken, ranOf, runOf, saidOf, sessionOf, sessionReportOf, stepOf};
+ghost use Rattle.machine.specs.Machine.{Means, answerOf, machineOf, nothingTaken, ranOf, runOf, sessionOf, sessionReportOf, stepOf};
 
 // How many records a run took, and how it ended.
 pub struct Ran {

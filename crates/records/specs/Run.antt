@@ -8,6 +8,7 @@ use Prim.Native.Nat.{ℕ, zero, suc, _+_}
 use lib.Dec.{ltb}
 use lib.ListN.{length}
 use Rattle.records.specs.Format.{readAt, sizeAt}
+use Rattle.records.specs.Refusals.{numberOf}
 use Rattle.records.specs.declared.Call.{Call}
 use Rattle.records.specs.declared.End.{End}
 use Rattle.records.specs.declared.End.the-variants as end
@@ -48,3 +49,24 @@ runFrom c judge act s (suc k) z n at =
 -- all records of an input
 abbrev pub runOf : {S : Type 0} → Call → (S → Record → Verdict) → (S → Record → S) → List ℕ → S → Ran S
 runOf c judge act s z = runFrom c judge act s (length s) z 0 0
+
+-- 01'S NUMBERS AND VALUES ---------------------------------------------------------------------------------------------
+
+-- a verdict, and what was read: the number of the refusal, or 0
+abbrev pub verdictNumber : Verdict → ℕ
+verdictNumber verdict.Taken = 0
+verdictNumber (verdict.Refused r) = numberOf r
+
+abbrev pub readNumber : Read → ℕ
+readNumber (read.Record x) = 0
+readNumber (read.Refused r) = numberOf r
+
+-- how a run ended: 0 at its end, or the number of the refusal with its place; and the records taken
+pub record Said : Type 0 where
+  pub number : ℕ
+  pub place : ℕ
+  pub taken : ℕ
+
+abbrev pub saidOf : ℕ → End → Said
+saidOf n end.Finished = record { number = 0; place = 0; taken = n }
+saidOf n (end.Refused r place) = record { number = numberOf r; place = place; taken = n }

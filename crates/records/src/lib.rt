@@ -8,7 +8,7 @@ pub use reading::size_at;
 pub use reading::wide;
 ghost use mathlib.Core.Path.{_≡_};
 ghost use Rattle.records.specs.Refusals.{numberOf};
-ghost use Rattle.records.specs.Run.{weighed};
+ghost use Rattle.records.specs.Run.{readNumber, verdictNumber, weighed};
 
 // 64 links, 32 sessions, paths of at most 8 links, rates of at most 1,000,000 kbit/s, 256 packets, 32,768 bytes of input.
 pub const LINKS: u8 = 64;
@@ -119,7 +119,8 @@ pub fn number(r: Refusal) -> u64
 
 // A record that was read, unless the verdict on it is a refusal.
 pub fn weigh(v: Verdict, x: Record) -> Read
-    ensures { λ r. ⌜ r ≡ weighed v x ⌝ }
+    ensures exact { λ r. ⌜ r ≡ weighed v x ⌝ }
+    ensures said { λ r. ⌜ readNumber r ≡ verdictNumber v ⌝ }
 {
     match v {
         Verdict::Taken => Read::Record(x),

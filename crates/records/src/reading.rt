@@ -12,6 +12,7 @@ ghost use mathlib.Core.Path.{_≡_};
 ghost use Prim.Native.Nat.{_+_, _≤_, _<_};
 ghost use lib.ListN.{getD, length};
 ghost use Rattle.records.specs.Format.{be2, be4, takesOf, bodyOf, rateOk, linkAt, sessionAt, leaveAt, changeAt, deliverAt, bodyAt, sizeAt, readAt};
+ghost use Rattle.records.specs.Run.{readNumber};
 
 // Whether the call takes records of this kind.
 fn takes(call: Call, kind: u8) -> bool
@@ -183,7 +184,8 @@ fn body_at(s: &[u8], at: usize, kind: u8) -> Read
 
 // The record at a place: refusals 2 to 6 in number order. Past the end stands no kind, and so none that is taken.
 pub fn read_at(call: Call, s: &[u8], at: usize) -> Read
-    ensures { λ r. ⌜ r ≡ readAt call (now (s .entry)) at ⌝ }
+    ensures exact { λ r. ⌜ r ≡ readAt call (now (s .entry)) at ⌝ }
+    ensures said { λ r. ⌜ readNumber r ≡ readNumber (readAt call (now (s .entry)) at) ⌝ }
 {
     if s.len() <= at {
         return Read::Refused(Refusal::KindNotTaken);

@@ -78,7 +78,7 @@ enum-told c = search needs
 
 answer-requires : tie.Need-answer-requires
 answer-requires c κs = (
-  subst (λ (x : Declarations). Ranges (x .declared)) (sym (c .before .before .before .before .before .before .declare-all .ensures)) (ranges-of (now (c .before .before .before .before .before .before .before .before .before .before .before .before .before .before .before .args .s)) (λ i. omega (arith, c .before .before .before .before .before .before .before .before .before .before .before .before .before .before .shared-slice-known .given i))),
+  subst (λ (x : Declarations). Ranges (x .declared)) (sym (c .before .before .before .before .before .before .declare-all .ensures .0)) (ranges-of (now (c .before .before .before .before .before .before .before .before .before .before .before .before .before .before .before .args .s)) (λ i. omega (arith, c .before .before .before .before .before .before .before .before .before .before .before .before .before .before .shared-slice-known .given i))),
   c .before .before .before .before .before .before .before .before .before .before .if1 .left,
   c .before .before .before .before .before .before .before .before .before .if2 .left,
   c .before .before .before .before .before .before .before .before .if3 .left,
@@ -92,7 +92,7 @@ returns-5 c =
     let d = now (a .dens) in
     let p = now (a .places) in
     let e = by-records s n d p (c .before .before .before .before .before .before .before .if1 .left) (c .before .before .before .before .before .before .if2 .left) (c .before .before .before .before .before .if3 .left) (c .before .before .before .before .if4 .left)
-    ∙ ap (λ (x : End). afterRecords x (declarationsOf s .declared) n d p) (sym (ap (λ (x : Declarations). x .end) (c .before .before .before .declare-all .ensures)) ∙ c .before .end .given .1) in
+    ∙ ap (λ (x : End). afterRecords x (declarationsOf s .declared) n d p) (sym (ap (λ (x : Declarations). x .end) (c .before .before .before .declare-all .ensures .0)) ∙ c .before .end .given .1) in
     (told s n d p e, (ap (λ (o : Outcome). saidOf (o .answer)) (sym e), omega arith))
 
 same-length : tie.Need-same-length
@@ -111,7 +111,7 @@ returns-6 c =
     let n = now (a .nums) in
     let d = now (a .dens) in
     let p = now (a .places) in
-    let q = c .before .before .before .before .before .before .before .before .before .before .before .before .before .declare-all .ensures in
+    let q = c .before .before .before .before .before .before .before .before .before .before .before .before .before .declare-all .ensures .0 in
     let e = by-records s n d p (c .before .before .before .before .before .before .before .before .before .before .before .before .before .before .before .before .before .if1 .left) (c .before .before .before .before .before .before .before .before .before .before .before .before .before .before .before .before .if2 .left) (c .before .before .before .before .before .before .before .before .before .before .before .before .before .before .before .if3 .left) (c .before .before .before .before .before .before .before .before .before .before .before .before .before .before .if4 .left)
     ∙ ap (λ (x : End). afterRecords x (declarationsOf s .declared) n d p) (sym (ap (λ (x : Declarations). x .end) q) ∙ c .before .before .before .before .before .before .before .before .before .before .before .enum-told .given .1) in
     let o = ap (λ (x : Declarations). doneOf (x .declared) n d p) q ∙ sym e in

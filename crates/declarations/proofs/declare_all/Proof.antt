@@ -8,7 +8,8 @@ use lib.ListN.{length}
 use native.Mathlib.Omega.{arith}
 use mathlib.Core.List.{List}
 use native.Mathlib.Nat.{sub-zero}
-use Rattle.records.specs.Run.{Ran, runFrom, runOf}
+use Rattle.fractions.proofs.Cases.{said-too}
+use Rattle.records.specs.Run.{Ran, runFrom, runOf, saidOf}
 use Rattle.records.specs.declared.Call.the-variants as call
 use Rattle.records.proofs.ReadRecords.{judged-record-ends, judged-record-ok}
 use Rattle.records.proofs.Runs.{run-end, run-refused, run-taken}
@@ -18,6 +19,10 @@ use Rattle.declarations.specs.declared.Declared.{Declared}
 use Rattle.declarations.proofs.Fields.{declared-by}
 use Rattle.declarations.proofs.declare_all.Statement.{statement}
 use Rattle.declarations.proofs.declare_all.Tie as tie
+
+-- the declarations that were promised say how the run ended
+told-too : {x y : Declarations} → x ≡ y → (x ≡ y) × (saidOf (x .taken) (x .end) ≡ saidOf (y .taken) (y .end))
+told-too = said-too (λ (z : Declarations). saidOf (z .taken) (z .end))
 
 -- the declarations in the locals
 abbrev state : ℕ → List ℕ → ℕ → List ℕ → List ℕ → List ℕ → Declared
@@ -88,7 +93,7 @@ with-session-requires c κs =
     judged-record-ok call.Calculation s (l .at) (judging s (state (l .links) (l .capacity) (l .declared) (l .access) (l .maximum) (l .path))) _ (sym (c .before .before .before .before .before .before .before .before .before .next .ensures) ∙ c .before .before .before .before .before .before .before .x .given .1) (λ i. omega (arith, c .before .before .before .before .before .before .before .before .before .before .before .before .before .before .before .before .shared-slice-known .given i))
 
 size-at-requires : tie.Need-size-at-requires Inv-loop μ-loop
-size-at-requires c κs = omega arith
+size-at-requires c κs = search needs
 
 add-at : tie.Need-add-at Inv-loop μ-loop
 add-at c = omega (arith, ends c)
@@ -124,14 +129,15 @@ returns : tie.Need-returns Inv-loop μ-loop
 unfolding declarationsOf
 returns c = let s = now (c .before .before .before .before .before .before .before .before .before .before .before .args .s) in
     let l = c .before .before .before .before .before .loop in
-    ap shown
-    (sym (run-refused call.Calculation (judging s) (declareOf s) s (state (l .links) (l .capacity) (l .declared) (l .access) (l .maximum) (l .path)) (l .n) (l .at) _ (l .inv .0) (c .before .before .before .before .loop-test .taken) (sym (c .before .before .before .next .ensures) ∙ c .before .x2 .given .1)) ∙ l .inv .2)
+    told-too
+    (ap shown
+    (sym (run-refused call.Calculation (judging s) (declareOf s) s (state (l .links) (l .capacity) (l .declared) (l .access) (l .maximum) (l .path)) (l .n) (l .at) _ (l .inv .0) (c .before .before .before .before .loop-test .taken) (sym (c .before .before .before .next .ensures) ∙ c .before .x2 .given .1)) ∙ l .inv .2))
 
 returns-2 : tie.Need-returns-2 Inv-loop μ-loop
 unfolding declarationsOf
 returns-2 c = let s = now (c .before .before .before .before .before .before .before .args .s) in
     let l = c .before .loop in
-    ap shown (sym (run-end call.Calculation (judging s) (declareOf s) s (length s - l .n) (state (l .links) (l .capacity) (l .declared) (l .access) (l .maximum) (l .path)) (l .n) (l .at) (c .loop-test .left)) ∙ l .inv .2)
+    told-too (ap shown (sym (run-end call.Calculation (judging s) (declareOf s) s (length s - l .n) (state (l .links) (l .capacity) (l .declared) (l .access) (l .maximum) (l .path)) (l .n) (l .at) (c .loop-test .left)) ∙ l .inv .2))
 
 pub declare-all-spec : {M : Type 1} → statement M
 declare-all-spec =

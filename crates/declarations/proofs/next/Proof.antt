@@ -23,7 +23,7 @@ enum-known-read c = search needs
 judge-requires : tie.Need-judge-requires
 judge-requires c κs =
     let a = c .before .before .before .before .before .args in
-    read-record-ok call.Calculation (now (a .s)) (a .at) _ (λ i. omega (arith, c .before .before .before .before .shared-slice-known .given i)) (sym (c .before .before .before .read-at .ensures) ∙ c .before .read .given .1)
+    read-record-ok call.Calculation (now (a .s)) (a .at) _ (λ i. omega (arith, c .before .before .before .before .shared-slice-known .given i)) (sym (c .before .before .before .read-at .ensures .0) ∙ c .before .read .given .1)
 
 weigh-requires : tie.Need-weigh-requires
 weigh-requires c κs = search needs
@@ -33,14 +33,14 @@ enum-known-read-2 c = search needs
 
 returns : tie.Need-returns
 returns c =
-    let q = sym (c .before .before .before .before .before .read-at .ensures) ∙ c .before .before .before .read .given .1 in
-    c .weigh .ensures
+    let q = sym (c .before .before .before .before .before .read-at .ensures .0) ∙ c .before .before .before .read .given .1 in
+    c .weigh .ensures .0
     ∙ (ap (λ (v : Verdict). weighed v (c .before .before .before .read .given .0 .0)) (c .before .judge .ensures)
     ∙ sym (ap (λ (r : Read). judged r (judgeOf (now (c .before .before .before .before .before .before .before .args .s)) (c .before .before .before .before .before .before .before .args .links) (c .before .before .before .before .before .before .before .args .declared))) q))
 
 returns-2 : tie.Need-returns-2
 returns-2 c =
-    let q = sym (c .before .before .before .read-at .ensures) ∙ c .before .read2 .given .1 in
+    let q = sym (c .before .before .before .read-at .ensures .0) ∙ c .before .read2 .given .1 in
     sym (ap (λ (r : Read). judged r (judgeOf (now (c .before .before .before .before .before .args .s)) (c .before .before .before .before .before .args .links) (c .before .before .before .before .before .args .declared))) q)
 
 pub next-spec : {M : Type 1} → statement M

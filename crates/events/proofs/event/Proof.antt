@@ -4,10 +4,16 @@ use mathlib.Core.Path.{_≡_, ap, subst, sym, _∙_}
 use denote.Ref.{now}
 use Rattle.records.specs.Format.{RecordOk}
 use Rattle.records.proofs.ReadRecords.{path-size}
-use Rattle.events.specs.Events.{eventOf}
+use Rattle.fractions.proofs.Cases.{said-too}
+use Rattle.records.specs.Run.{verdictNumber}
+use Rattle.events.specs.Events.{Step, eventOf}
 use borrow.Author.Needs.{needs}
 use Rattle.events.proofs.event.Statement.{statement}
 use Rattle.events.proofs.event.Tie as tie
+
+-- the step that was promised has the number of its verdict
+told-too : {x y : Step} → x ≡ y → (x ≡ y) × (verdictNumber (x .verdict) ≡ verdictNumber (y .verdict))
+told-too = said-too (λ (z : Step). verdictNumber (z .verdict))
 
 enum-known-x : tie.Need-enum-known-x
 enum-known-x c = search needs
@@ -41,23 +47,23 @@ deliver-requires c κs = search needs
 
 returns : tie.Need-returns
 unfolding eventOf
-returns c = rw (c .before .before .before .x .given .1) (c .declare .ensures)
+returns c = told-too (rw (c .before .before .before .x .given .1) (c .declare .ensures))
 
 returns-2 : tie.Need-returns-2
 unfolding eventOf
-returns-2 c = rw (c .before .before .before .x2 .given .1) (c .join .ensures)
+returns-2 c = told-too (rw (c .before .before .before .x2 .given .1) (c .join .ensures))
 
 returns-3 : tie.Need-returns-3
 unfolding eventOf
-returns-3 c = rw (c .before .before .before .x3 .given .1) (c .leave .ensures)
+returns-3 c = told-too (rw (c .before .before .before .x3 .given .1) (c .leave .ensures))
 
 returns-4 : tie.Need-returns-4
 unfolding eventOf
-returns-4 c = rw (c .before .before .before .x4 .given .1) (c .change .ensures)
+returns-4 c = told-too (rw (c .before .before .before .x4 .given .1) (c .change .ensures))
 
 returns-5 : tie.Need-returns-5
 unfolding eventOf
-returns-5 c = rw (c .before .before .before .x5 .given .1) (c .deliver .ensures)
+returns-5 c = told-too (rw (c .before .before .before .x5 .given .1) (c .deliver .ensures))
 
 pub event-spec : {M : Type 1} → statement M
 event-spec =

@@ -39,7 +39,7 @@ unfolding fits
 returns-3 c =
     let t = c .before .before in
     let ranged = sym (t .before .before .before .in-range .ensures) ∙ not-false _ (t .before .before .if1 .left) in
-    rw (ranged, sym (t .before .apart .ensures) ∙ not-false _ (t .if2 .left)) (ap not (c .is-past-c .ensures ∙ ap isPastC (c .before .sum-of-f .ensures)))
+    rw (ranged, sym (t .before .apart .ensures) ∙ not-false _ (t .if2 .left)) (ap not (c .is-past-c .ensures ∙ ap isPastC (c .before .sum-of-f .ensures .0)))
 
 pub fits-spec : {M : Type 1} → statement M
 fits-spec =

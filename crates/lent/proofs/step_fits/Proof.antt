@@ -45,7 +45,7 @@ returns-4 c =
     let k = f .before .before in
     let kind = sym (k .before .kind-fits .ensures) ∙ not-false _ (k .if2 .left) in
     rw (lt-ltb _ _ (k .before .before .if1 .left), kind, sym (f .before .fits2 .ensures) ∙ not-false _ (f .if3 .left))
-    (c .is-fine .ensures ∙ ap isFine (c .before .bottleneck-rate .ensures))
+    (c .is-fine .ensures ∙ ap isFine (c .before .bottleneck-rate .ensures .0))
 
 pub step-fits-spec : {M : Type 1} → statement M
 step-fits-spec =

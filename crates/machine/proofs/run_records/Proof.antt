@@ -40,7 +40,7 @@ enum-told : tie.Need-enum-told Inv-loop μ-loop
 enum-told c = search needs
 
 size-at-requires : tie.Need-size-at-requires Inv-loop μ-loop
-size-at-requires c κs = omega arith
+size-at-requires c κs = search needs
 
 add-at : tie.Need-add-at Inv-loop μ-loop
 add-at c = omega (arith, ends c)

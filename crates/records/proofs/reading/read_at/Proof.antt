@@ -8,14 +8,15 @@ use lib.ListN.{getD, length}
 use native.Mathlib.Omega.{arith}
 use borrow.Author.Tests.{le-leb, lt-leb}
 use Rattle.records.specs.Format.{bodyOf, readAt, sizeAt}
-use Rattle.fractions.proofs.Cases.{not-true, not-false}
+use Rattle.fractions.proofs.Cases.{not-true, not-false, said-too}
+use Rattle.records.specs.Run.{readNumber}
 use Rattle.records.proofs.PastEnd.{read-past-end}
 use Rattle.records.proofs.TakenKinds.{taken-kind}
 use Rattle.records.proofs.reading.read_at.Statement.{statement}
 use Rattle.records.proofs.reading.read_at.Tie as tie
 
 returns : tie.Need-returns
-returns c = sym (read-past-end _ _ (c .if1 .taken) _)
+returns c = said-too readNumber (sym (read-past-end _ _ (c .if1 .taken) _))
 
 shared-slice-read-kind : tie.Need-shared-slice-read-kind
 shared-slice-read-kind c = search needs
@@ -25,7 +26,7 @@ takes-requires c κs = search needs
 
 returns-2 : tie.Need-returns-2
 unfolding readAt
-returns-2 c = let e = sym (c .before .takes .ensures) ∙ not-true _ (c .if2 .taken) in rw e
+returns-2 c = let e = sym (c .before .takes .ensures) ∙ not-true _ (c .if2 .taken) in said-too readNumber (rw e)
 
 sub-if3 : tie.Need-sub-if3
 sub-if3 c = search needs
@@ -40,7 +41,7 @@ returns-3 : tie.Need-returns-3
 unfolding readAt sizeAt
 returns-3 c = let a = c .before .before .before .before .before .before .before .args in
     let e = sym (c .before .before .before .takes .ensures) ∙ not-false _ (c .before .before .if2 .left) in
-    simp (e, lt-leb (a .at + (1 + bodyOf (getD (now (a .s)) (a .at) 0))) (length (now (a .s))) (omega (arith, c .before .body .ensures)))
+    said-too readNumber (simp (e, lt-leb (a .at + (1 + bodyOf (getD (now (a .s)) (a .at) 0))) (length (now (a .s))) (omega (arith, c .before .body .ensures))))
 
 body-at-requires : tie.Need-body-at-requires
 body-at-requires c κs =
@@ -53,7 +54,8 @@ returns-4 : tie.Need-returns-4
 unfolding readAt sizeAt
 returns-4 c = let a = c .before .before .before .before .before .before .before .before .args in
     let e = sym (c .before .before .before .before .takes .ensures) ∙ not-false _ (c .before .before .before .if2 .left) in
-    c .body-at .ensures ∙ simp (e, le-leb (a .at + (1 + bodyOf (getD (now (a .s)) (a .at) 0))) (length (now (a .s))) (omega (arith, c .before .before .body .ensures)))
+    said-too readNumber
+    (c .body-at .ensures ∙ simp (e, le-leb (a .at + (1 + bodyOf (getD (now (a .s)) (a .at) 0))) (length (now (a .s))) (omega (arith, c .before .before .body .ensures))))
 
 pub read-at-spec : {M : Type 1} → statement M
 read-at-spec =
