@@ -1,7 +1,8 @@
 -- `ranges::packet_fits` meets its contract.
 -- Assumes nothing.
+use mathlib.Core.Path.{ap, _∙_}
 use borrow.Author.Needs.{needs}
-use Rattle.ranges.specs.Ranges.{packetFits}
+use Rattle.ranges.specs.Ranges.{packetFits, wordsFit}
 use Rattle.ranges.proofs.packet_fits.Statement.{statement}
 use Rattle.ranges.proofs.packet_fits.Tie as tie
 
@@ -19,7 +20,7 @@ words-fit-requires c κs = search needs
 
 returns : tie.Need-returns
 unfolding packetFits
-returns c = cc
+returns c = c .words-fit .ensures ∙ ap wordsFit (c .before .block-at .ensures)
 
 pub packet-fits-spec : {M : Type 1} → statement M
 packet-fits-spec =

@@ -1,7 +1,8 @@
 -- `table::packet_at` meets its contract.
 -- Assumes nothing.
+use mathlib.Core.Path.{ap, _∙_}
 use borrow.Author.Needs.{needs}
-use Rattle.table.specs.Words.{packetOf}
+use Rattle.table.specs.Words.{packetFrom, packetOf}
 use Rattle.table.proofs.packet_at.Statement.{statement}
 use Rattle.table.proofs.packet_at.Tie as tie
 
@@ -19,7 +20,7 @@ packet-from-requires c κs = search needs
 
 returns : tie.Need-returns
 unfolding packetOf
-returns c = cc
+returns c = c .packet-from .ensures ∙ ap packetFrom (c .before .block-at .ensures)
 
 pub packet-at-spec : {M : Type 1} → statement M
 packet-at-spec =

@@ -11,7 +11,7 @@ row-at-requires : tie.Need-row-at-requires
 row-at-requires c κs = search needs
 
 returns : tie.Need-returns
-returns c = cc
+returns c = rw (c .before .link-at .ensures, c .row-at .ensures)
 
 pub place-at-spec : {M : Type 1} → statement M
 place-at-spec = tie.close (tie.spec link-at-requires row-at-requires returns)

@@ -1,5 +1,6 @@
 -- `table::put_block` meets its contract.
 -- Assumes nothing.
+use mathlib.Core.Path.{refl}
 use borrow.Author.Needs.{needs}
 use Rattle.table.specs.Words.{putBlock}
 use Rattle.table.proofs.put_block.Statement.{statement}
@@ -100,7 +101,7 @@ element-write-t-8 c = search needs
 
 returns : tie.Need-returns
 unfolding putBlock
-returns c = search needs
+returns c = refl
 
 pub put-block-spec : {M : Type 1} → statement M
 put-block-spec =

@@ -1,7 +1,8 @@
 -- `table::put_packet` meets its contract.
 -- Assumes nothing.
+use mathlib.Core.Path.{ap, _∙_}
 use borrow.Author.Needs.{needs}
-use Rattle.table.specs.Words.{putPacket}
+use Rattle.table.specs.Words.{putBlock, putPacket}
 use Rattle.table.proofs.put_packet.Statement.{statement}
 use Rattle.table.proofs.put_packet.Tie as tie
 
@@ -19,7 +20,7 @@ put-block-requires c κs = search needs
 
 returns : tie.Need-returns
 unfolding putPacket
-returns c = cc
+returns c = c .put-block .ensures ∙ ap (putBlock _ _) (c .before .before .packet-words .ensures)
 
 pub put-packet-spec : {M : Type 1} → statement M
 put-packet-spec =

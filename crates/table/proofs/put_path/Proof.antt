@@ -1,7 +1,8 @@
 -- `table::put_path` meets its contract.
 -- Assumes nothing.
+use mathlib.Core.Path.{ap, _∙_}
 use borrow.Author.Needs.{needs}
-use Rattle.table.specs.Words.{putPath}
+use Rattle.table.specs.Words.{putBlock, putPath}
 use Rattle.table.proofs.put_path.Statement.{statement}
 use Rattle.table.proofs.put_path.Tie as tie
 
@@ -22,7 +23,7 @@ put-block-requires c κs = search needs
 
 returns : tie.Need-returns
 unfolding putPath
-returns c = cc
+returns c = c .put-block .ensures ∙ ap (putBlock _ _) (c .before .before .bytes-at .ensures)
 
 pub put-path-spec : {M : Type 1} → statement M
 put-path-spec =

@@ -13,7 +13,7 @@ put-row-requires c κs = search needs
 
 returns : tie.Need-returns
 unfolding putPlace
-returns c = cc
+returns c = rw (c .put-row .ensures, c .before .before .put-link .ensures)
 
 pub put-place-spec : {M : Type 1} → statement M
 put-place-spec = tie.close (tie.spec put-link-requires put-row-requires returns)

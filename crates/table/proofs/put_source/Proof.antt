@@ -28,7 +28,7 @@ put-rates-requires c κs = search needs
 
 returns : tie.Need-returns
 unfolding putSource
-returns c = cc
+returns c = rw (c .put-rates .ensures, c .before .before .put-block .ensures, c .before .before .before .before .told-rate .ensures, c .before .before .before .before .before .before .head-words .ensures)
 
 pub put-source-spec : {M : Type 1} → statement M
 put-source-spec =

@@ -1,7 +1,8 @@
 -- `table::source_at` meets its contract.
 -- Assumes nothing.
+use mathlib.Core.Path.{ap₂, _∙_}
 use borrow.Author.Needs.{needs}
-use Rattle.table.specs.Words.{sourceOf}
+use Rattle.table.specs.Words.{sourceFrom, sourceOf}
 use Rattle.table.proofs.source_at.Statement.{statement}
 use Rattle.table.proofs.source_at.Tie as tie
 
@@ -25,7 +26,7 @@ source-from-requires c κs = search needs
 
 returns : tie.Need-returns
 unfolding sourceOf
-returns c = cc
+returns c = c .source-from .ensures ∙ ap₂ sourceFrom (c .before .before .block-at .ensures) (c .before .block-at2 .ensures)
 
 pub source-at-spec : {M : Type 1} → statement M
 source-at-spec =
