@@ -41,10 +41,10 @@ kept-sized n d =
     record { pos = ltb-true _ _ (p .0); den = leb-true _ _ (q .0); num = leb-true _ _ (q .1) })
     (λ e. whole-sized {m = maxRate} {n = 0} (lit≤ tt))
 
--- and of a rate they stand for it
-pub kept-same : {a : Rate} → Within maxRate a → keptOf (a .num) (a .den) ≡ a
+-- and of a rate within the limits they stand for it
+pub kept-same : {a : Rate} → Sized maxRate a → keptOf (a .num) (a .den) ≡ a
 unfolding keptOf sizedOf
-kept-same w = simp (lt-ltb _ _ (w .lowest .pos), le-leb _ _ (w .den), le-leb _ _ (w .num))
+kept-same w = simp (lt-ltb _ _ (w .pos), le-leb _ _ (w .den), le-leb _ _ (w .num))
 
 pub within-lowest : {m : ℕ} {a : Rate} → Within m a → Lowest a
 within-lowest w = w .lowest

@@ -49,7 +49,7 @@ packet-within {p} h = record { session = h .session; hop = h .hop; kind = kind-w
 kept-within : (n d : ℕ) → isRateOf (frac n d) ≡ true → Within maxRate (keptOf n d)
 kept-within n d e =
     let q : Within maxRate (frac n d) = is-rate-within e in
-    subst (Within maxRate) (sym (kept-same q)) q
+    subst (Within maxRate) (sym (kept-same (within-sized q))) q
 
 pub count-fits-means : (w : List ℕ) → countFits w ≡ true → countOf w ≡ getD w 9152 0
 unfolding countFits countOf

@@ -5,6 +5,7 @@ use mathlib.Core.Path.{_≡_, ap, refl}
 use native.Mathlib.Omega.{arith}
 use borrow.Author.Tests.{le-leb, ne-eqb}
 use lib.Dec.{eqb, leb}
+use Rattle.fractions.proofs.Ranges.{kept-same}
 use Rattle.tasks.specs.declared.Eta.{Eta}
 use Rattle.tasks.specs.declared.Eta.the-variants as eta
 use Rattle.links.specs.declared.Mu.{Mu}
@@ -15,7 +16,7 @@ use Rattle.ends.specs.declared.Told.{Told}
 use Rattle.ends.specs.declared.Told.the-variants as told
 use Rattle.table.specs.Values.{EtaInRange, ToldInRange}
 use Rattle.table.specs.Words.{bitOf, etaCode, etaOf, muCode, muOf, tauCode, tauOf, toldCode, toldOf, toldRate}
-use Rattle.table.proofs.InRange.{field-same, kept-back}
+use Rattle.table.proofs.InRange.{field-same}
 
 pub mu-back : (m : Mu) → muOf (muCode m) ≡ m
 unfolding muOf
@@ -41,7 +42,7 @@ eta-back (eta.Link e) h = rw (ne-eqb e 64 (λ q. omega arith), field-same 63 e (
 pub told-back : (x : Told) → ToldInRange x → toldOf (toldCode x) (toldRate x .num) (toldRate x .den) ≡ x
 unfolding toldOf
 told-back told.Never h = refl
-told-back (told.Rate x) h = ap told.Rate (kept-back h)
+told-back (told.Rate x) h = ap told.Rate (kept-same h)
 
 -- AND IS WITHIN ITS RANGE ---------------------------------------------------------------------------------------------
 

@@ -4,11 +4,10 @@ use mathlib.Core.List.{List}
 use mathlib.Core.Path.{_≡_, ap, refl, _∙_}
 use Prim.Native.Nat.{ℕ, zero, suc, _+_, _*_, _≤_, _<_}
 use native.Mathlib.Omega.{arith}
-use borrow.Author.Tests.{le-leb, leb-true, lt-ltb}
+use borrow.Author.Tests.{le-leb, leb-true}
 use lib.Dec.{eqb, leb}
 use lib.ListN.{getD, length}
-use Rattle.fractions.specs.Fraction.{Sized, keptOf, maxRate, sizedOf}
-use Rattle.fractions.specs.declared.Rate.{Rate}
+use Rattle.fractions.specs.Fraction.{Sized, maxRate}
 use Rattle.fractions.proofs.Cases.{cases}
 use Rattle.fractions.proofs.Ranges.{kept-sized}
 use Rattle.links.specs.declared.Entry.{Entry}
@@ -29,11 +28,6 @@ field-below most m n h = omega (arith, field-most most n)
 pub field-same : (most n : ℕ) → n ≤ most → fieldOf most n ≡ n
 unfolding fieldOf
 field-same most n h = rw (le-leb n most h)
-
--- and so does a rate within the limits
-pub kept-back : {a : Rate} → Sized maxRate a → keptOf (a .num) (a .den) ≡ a
-unfolding keptOf sizedOf
-kept-back w = simp (lt-ltb _ _ (w .pos), le-leb _ _ (w .den), le-leb _ _ (w .num))
 
 -- LINKS AND THEIR ENTRIES ---------------------------------------------------------------------------------------------
 

@@ -9,6 +9,7 @@ use lib.ListN.{drop, getD, length, length-drop, take}
 use lib.Seq.{ext-getD, getD-drop, getD-set-same, getD-take, length-take-le}
 use Rattle.fractions.specs.Fraction.{Sized, maxRate}
 use Rattle.fractions.specs.declared.Rate.{Rate}
+use Rattle.fractions.proofs.Ranges.{kept-same}
 use Rattle.links.specs.declared.Entry.{Entry}
 use Rattle.tasks.specs.declared.Kind.{Kind}
 use Rattle.tasks.specs.declared.Kind.the-variants as kind
@@ -19,7 +20,7 @@ use Rattle.ends.specs.declared.Source.{Source}
 use Rattle.table.specs.Values.{KindInRange, LinkInRange, PacketInRange, PlaceInRange, RowInRange, SourceInRange}
 use Rattle.table.specs.Words.{bitOf, blockAt, countOf, entriesFrom, entryOf, headWords, hopsOf, kindOf, linkOf, muCode, noEntry, packetFrom, packetOf, packetWords, pathOf, placeOf, putBlock, putCount, putEntry, putHops, putLink, putPacket, putPath, putPlace, putRates, putRow, putSource, rowOf, sourceFrom, sourceOf, stopOf, storeEntries, toldRate, wordsFor}
 use Rattle.table.proofs.Codes.{bit-back, eta-back, mu-back, tau-back, told-back}
-use Rattle.table.proofs.InRange.{field-same, kept-back, path-length, path-stop}
+use Rattle.table.proofs.InRange.{field-same, path-length, path-stop}
 use Rattle.table.proofs.Places.{entries-below, entry-agree, hops-agree, length-put-entry, length-put-hops, length-put-link, length-put-path, link-agree, put-hops-off, put-path-off, put-rates-off, put-row-off, stop-agree}
 use Rattle.table.proofs.Store.{block-agree, block-back, block-word, eight, getD-block, length-put-block, store-first, store-next}
 
@@ -47,7 +48,7 @@ entry-back w a x h g =
       store-next w a (muCode (x .mu)) vs 0 (omega arith) (omega arith),
       store-next w a (muCode (x .mu)) vs 1 (omega arith) (omega arith),
       mu-back (x .mu),
-      kept-back g,
+      kept-same g,
     )
 
 pub entries-back : (l : List Entry) (w : List ℕ) (a : ℕ)
@@ -103,7 +104,7 @@ source-from-words z rest g =
       field-same 1000000 (z .maximum) (g .maximum),
       bit-back (z .free),
       mu-back (z .mu),
-      kept-back (g .rate),
+      kept-same (g .rate),
       bit-back (z .updated),
       bit-back (z .bottlenecked),
       told-back (z .told) (g .told),
@@ -259,9 +260,9 @@ words-down s h d kind.Leave = refl
 
 pub kind-back : (s h d : ℕ) (k : Kind) → KindInRange k → kindOf (eight (wordsFor s h d k)) ≡ k
 unfolding kindOf
-kind-back s h d (kind.Join x n) g = rw (kept-back (g .0), eta-back n (g .1))
-kind-back s h d (kind.Probe x n) g = rw (kept-back (g .0), eta-back n (g .1))
-kind-back s h d (kind.Response t x n) g = rw (tau-back t, kept-back (g .0), eta-back n (g .1))
+kind-back s h d (kind.Join x n) g = rw (kept-same (g .0), eta-back n (g .1))
+kind-back s h d (kind.Probe x n) g = rw (kept-same (g .0), eta-back n (g .1))
+kind-back s h d (kind.Response t x n) g = rw (tau-back t, kept-same (g .0), eta-back n (g .1))
 kind-back s h d kind.Update g = refl
 kind-back s h d kind.Bottleneck g = refl
 kind-back s h d (kind.SetBottleneck beta) g = rw (bit-back beta)
