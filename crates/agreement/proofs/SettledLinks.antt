@@ -25,7 +25,7 @@ use Rattle.links.proofs.Sizes.{sum-sized}
 use Rattle.records.proofs.Somes.{clash}
 use Rattle.sessions.specs.Set.{has, sizeOf}
 use Rattle.soundness.specs.Sound.{weight}
-use Rattle.soundness.proofs.Holding.{is-in}
+use Rattle.sessions.proofs.Members.{is-in}
 use Rattle.soundness.proofs.Weights.{Comes, member-size, members-weigh, members-within}
 use Rattle.agreement.specs.Needed.{Shared}
 

@@ -6,7 +6,7 @@ use mathlib.Core.Logic.{inl, inr, _⊎_}
 use mathlib.Core.Path.{ap, ap₂, refl, subst, sym, _∙_, _≡_}
 use Prim.Native.Nat.{ℕ, _*_, _<_, _^_}
 use native.Mathlib.Omega.{arith}
-use borrow.Author.Tests.{eq-eqb, eqb-false, eqb-true}
+use borrow.Author.Tests.{eq-eqb, eqb-true}
 use lib.Dec.{eqb}
 use Rattle.ends.specs.declared.Told.{Told}
 use Rattle.ends.specs.declared.Told.the-variants as told
@@ -22,8 +22,8 @@ use Rattle.links.proofs.Sizes.{sum-sized}
 use Rattle.records.specs.Format.{all}
 use Rattle.records.proofs.Alls.{all-at, all-below, all-fails}
 use Rattle.records.proofs.Somes.{all-some, clash, implied, implies}
-use Rattle.sessions.specs.Set.{has, hasOf}
-use Rattle.sessions.proofs.Members.{has-or-not, has-zero, same-members}
+use Rattle.sessions.specs.Set.{hasOf}
+use Rattle.sessions.proofs.Members.{has-zero, is-out, same-members}
 use Rattle.table.specs.Words.{hopsOf, placeOf, sourceOf, stopOf}
 use Rattle.conditions.specs.Conditions.{AgreesAt, Limited, Rated, Restricted, Rests, SumAtMostC, ToldItsRate}
 use Rattle.conditions.specs.Settled.{agreesAt, isAtMostC, isLimited, isTold, limitOf, linkRated, memberRated, membersRated, pathAgrees, ratedInF, ratedInR, restrictedAt, restrictedSomewhere, sessionLimited, sessionRests, sessionTold, stopAgrees, sumRated}
@@ -77,15 +77,8 @@ rests-test w s f =
 -- (c) OF ONE LINK -----------------------------------------------------------------------------------------------------
 
 -- no session is a member exactly where the word is 0
-no-member : (s w : ℕ) → hasOf s w ≡ false → has s w ≡ 0
-no-member s w e = go (has-or-not s w)
-  where
-    go : (has s w ≡ 0) ⊎ (has s w ≡ 1) → has s w ≡ 0
-    go (inl q) = q
-    go (inr q) = absurd (eqb-false (has s w) 1 e q)
-
 none-zero : (w : ℕ) → w < 2 ^ 32 → ((s : ℕ) → s < 32 → hasOf s w ≡ false) → w ≡ 0
-none-zero w h f = same-members 32 w 0 h (omega arith) (λ s l. no-member s w (f s l) ∙ sym (has-zero s))
+none-zero w h f = same-members 32 w 0 h (omega arith) (λ s l. is-out w s (f s l) ∙ sym (has-zero s))
 
 zero-none : (w s : ℕ) → w ≡ 0 → hasOf s w ≡ false
 zero-none w s e = rw (e, has-zero s)

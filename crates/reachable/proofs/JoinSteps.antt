@@ -29,7 +29,7 @@ use Rattle.table.proofs.InRange.{path-stop}
 use Rattle.table.proofs.Packets.{length-packets, packets-at}
 use Rattle.table.proofs.Places.{length-put-hops, length-put-path}
 use Rattle.table.proofs.ReadBack.{hops-back, path-back-hops-last, source-back}
-use Rattle.table.proofs.Unchanged.{count-after-hops, count-after-path, count-after-source, hops-after-source, link-after-hops, link-after-path, packets-after-hops, packets-after-path, packets-after-source, path-after-source, path-other-hops, path-other-path, row-after-hops, row-after-path, source-after-hops, source-after-path, source-other}
+use Rattle.table.proofs.Unchanged.{count-after-hops, count-after-path, count-after-source, hops-after-source, link-after-hops, link-after-path, packets-after-hops, packets-after-path, packets-after-source, path-after-source, path-other-hops, path-other-path, place-after-source, row-after-hops, row-after-path, source-after-hops, source-after-path, source-other}
 use Rattle.tasks.specs.declared.Eta.the-variants as eta
 use Rattle.tasks.specs.declared.Kind.the-variants as kind
 use Rattle.tasks.specs.declared.Packet.{Packet}
@@ -39,7 +39,6 @@ use Rattle.reachable.proofs.PacketLists.{every-index, every-map, none-s
 use Rattle.reachable.proofs.Sends.{Sent, all-sent, appendedAll}
 use Rattle.reachable.proofs.SentPackets.{sent-ok}
 use Rattle.reachable.proofs.SourceRules.{limit-within}
-use Rattle.reachable.proofs.SourceWrites.{place-after-source}
 use Rattle.reachable.proofs.Unless.{unless-many}
 
 -- THE PATH OF A RECORD ------------------------------------------------------------------------------------------------

@@ -15,9 +15,9 @@ use Rattle.handed.proofs.SumsAreRates.{passes-sums}
 use Rattle.links.specs.declared.Place.{Place}
 use Rattle.links.specs.Links.{F, R}
 use Rattle.sessions.specs.Set.{has}
-use Rattle.sessions.proofs.Members.{has-high, has-lt, has-or-not}
+use Rattle.sessions.proofs.Members.{has-high, has-lt, has-or-not, is-out}
 use Rattle.soundness.specs.Sound.{Sound}
-use Rattle.soundness.proofs.Holding.{held-holds, is-out}
+use Rattle.soundness.proofs.Holding.{held-holds}
 use Rattle.soundness.proofs.Weights.{members-within}
 use Rattle.table.specs.Words.{countOf, emptyWords, packetOf, packetsOf, placeOf}
 use Rattle.table.proofs.Empty.{empty-length, empty-packets}

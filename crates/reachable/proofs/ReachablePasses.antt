@@ -12,7 +12,8 @@ use Rattle.handed.specs.Passes.{LeaveToCome, Passes}
 use Rattle.handed.proofs.Passing.{means-passes}
 use Rattle.links.specs.Links.{F, R}
 use Rattle.sessions.specs.Set.{has}
-use Rattle.soundness.proofs.Holding.{holds-held, is-in}
+use Rattle.soundness.proofs.Holding.{holds-held}
+use Rattle.sessions.proofs.Members.{is-in}
 use Rattle.soundness.proofs.Shares.{sound-not-past}
 use Rattle.table.specs.Words.{countOf, packetOf, packetsOf, placeOf}
 use Rattle.table.proofs.Packets.{length-packets, packets-at}

@@ -10,7 +10,7 @@ use Rattle.table.specs.Values.{SourceWithin}
 use Rattle.table.specs.Words.{countOf, hopsOf, packetsOf, pathOf, placeOf, putSource, sourceOf}
 use Rattle.ranges.proofs.FitsMeans.{source-fits-means, source-within}
 use Rattle.table.proofs.ReadBack.{source-back}
-use Rattle.table.proofs.Unchanged.{count-after-source, link-after-source, packets-after-source, path-after-source, row-after-source, source-other}
+use Rattle.table.proofs.Unchanged.{count-after-source, packets-after-source, path-after-source, place-after-source, source-other}
 use Rattle.tasks.specs.declared.Packet.{Packet}
 use Rattle.reachable.specs.Invariant.{Every, Fits, PacketOk, Safe, activeIn}
 use Rattle.reachable.proofs.FitsKept.{fits-source}
@@ -22,9 +22,6 @@ use Rattle.reachable.proofs.Sends.{Sent, all-sent, appendedAll}
 -- what a session that has joined keeps is in range
 pub source-at : (w : List ℕ) (s : ℕ) → Safe w → s < 32 → 0 < hopsOf w s → SourceWithin (sourceOf w s)
 source-at w s i l h = source-fits-means w s (i .fits .sources s l h)
-
-pub place-after-source : (w : List ℕ) (q : ℕ) (z : Source) (e : ℕ) → q < 32 → e < 64 → placeOf (putSource w q z) e ≡ placeOf w e
-place-after-source w q z e y x = rw (link-after-source w q z e y x, row-after-source w q z e y x)
 
 -- v is the table w, where the source of session s is z, with the packets `rest` and behind them `sent`
 pub record Written (w : List ℕ) (s : ℕ) (z : Source) (rest sent : List Packet) (v : List ℕ) : Type 0 where

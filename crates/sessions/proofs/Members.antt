@@ -4,8 +4,10 @@ use mathlib.Core.Logic.{_⊎_, inl, inr}
 use mathlib.Core.Path.{_≡_, refl, ap, _∙_}
 use Prim.Native.Nat.{ℕ, zero, suc, _+_, _*_, _/_, _%_, _^_, _≤_, _<_}
 use native.Mathlib.Nat.{pow-suc}
+use mathlib.Core.Bool.{false, true}
 use native.Mathlib.Omega.{arith}
-use Rattle.sessions.specs.Set.{has, put, cut}
+use borrow.Author.Tests.{eqb-false, eqb-true}
+use Rattle.sessions.specs.Set.{cut, has, hasOf, put}
 
 -- a digit is 0 or 1
 pub has-lt : (s w : ℕ) → has s w < 2
@@ -21,6 +23,17 @@ digit (suc (suc d)) h = absurd (omega arith)
 -- a session is a member or it is not
 pub has-or-not : (s w : ℕ) → (has s w ≡ 0) ⊎ (has s w ≡ 1)
 has-or-not s w = digit (has s w) (has-lt s w)
+
+-- as the test says
+pub is-in : (w s : ℕ) → hasOf s w ≡ true → has s w ≡ 1
+is-in w s e = eqb-true (has s w) 1 e
+
+pub is-out : (w s : ℕ) → hasOf s w ≡ false → has s w ≡ 0
+is-out w s e = go (has-or-not s w)
+  where
+    go : (has s w ≡ 0) ⊎ (has s w ≡ 1) → has s w ≡ 0
+    go (inl h) = h
+    go (inr h) = absurd (eqb-false (has s w) 1 e h)
 
 -- the empty set has no member
 pub has-zero : (s : ℕ) → has s 0 ≡ 0

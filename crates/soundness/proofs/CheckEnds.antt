@@ -15,6 +15,7 @@ use Rattle.fairness.proofs.Sums.{sum-few}
 use Rattle.fractions.specs.declared.Rate.{Rate}
 use Rattle.fractions.specs.Fraction.{leOf, sameOf, zeroOf}
 use Rattle.fractions.proofs.Cases.{cases, chosen, not-true}
+use Rattle.fractions.proofs.Ranges.{true-same}
 use Rattle.links.specs.declared.Bound.{Bound}
 use Rattle.links.specs.declared.Bound.the-variants as bound
 use Rattle.links.specs.declared.Entry.{Entry}
@@ -111,7 +112,7 @@ turn-less p t =
     (has-those-le other (p .entries) (F p))
   where
     not-other : (x y : Rate) → x ≡ y → not (sameOf x y) ≡ true → ⊥
-    not-other x y e f = clash (sameOf x y) (eq-eqb (x .num * y .den) (y .num * x .den) (rw e refl)) (not-true (sameOf x y) f)
+    not-other x y e f = clash (sameOf x y) (true-same e) (not-true (sameOf x y) f)
 
 -- THE LOOP ------------------------------------------------------------------------------------------------------------
 

@@ -14,7 +14,8 @@ use Rattle.tasks.specs.declared.Onward.the-variants as onward
 use Rattle.tasks.specs.Figure2.{linkStepOf}
 use Rattle.soundness.specs.LinkDid.{LinkDid}
 use Rattle.soundness.specs.Sound.{Sound}
-use Rattle.soundness.proofs.Holding.{holds-held, is-in, not-held}
+use Rattle.soundness.proofs.Holding.{holds-held, not-held}
+use Rattle.sessions.proofs.Members.{is-in}
 use Rattle.soundness.proofs.Leaving.{did-leave, did-set}
 use Rattle.soundness.proofs.Restricting.{did-join, did-probe}
 use Rattle.soundness.proofs.Rules.{did-bottleneck, did-drop, did-nothing, did-response, did-update}

@@ -6,23 +6,12 @@ use mathlib.Core.Path.{_≡_, ap, refl, sym, _∙_}
 use Prim.Native.Nat.{ℕ, _+_, _^_, _<_}
 use native.Mathlib.Decide.{ℕ-discrete}
 use native.Mathlib.Omega.{arith}
-use borrow.Author.Tests.{eqb-false, eqb-true}
 use Rattle.fractions.proofs.Cases.{or-either, or-false}
 use Rattle.links.specs.declared.Place.{Place}
 use Rattle.links.specs.Links.{F, R, holds, inF, inR}
-use Rattle.sessions.specs.Set.{cut, has, hasOf, put}
-use Rattle.sessions.proofs.Members.{cut-le, has-cut-other, has-cut-same, has-or-not, has-put-other, has-put-same, has-zero, put-lt, same-members}
+use Rattle.sessions.specs.Set.{cut, has, put}
+use Rattle.sessions.proofs.Members.{cut-le, has-cut-other, has-cut-same, has-put-other, has-put-same, has-zero, is-in, is-out, put-lt, same-members}
 use Rattle.soundness.specs.Sound.{Held}
-
-pub is-in : (w s : ℕ) → hasOf s w ≡ true → has s w ≡ 1
-is-in w s e = eqb-true (has s w) 1 e
-
-pub is-out : (w s : ℕ) → hasOf s w ≡ false → has s w ≡ 0
-is-out w s e = go (has-or-not s w)
-  where
-    go : (has s w ≡ 0) ⊎ (has s w ≡ 1) → has s w ≡ 0
-    go (inl h) = h
-    go (inr h) = absurd (eqb-false (has s w) 1 e h)
 
 pub holds-held : (p : Place) (s : ℕ) → holds p s ≡ true → Held p s
 holds-held p s e = go (or-either (inR p s) (inF p s) e)

@@ -15,7 +15,7 @@ use Rattle.links.specs.declared.Mu.the-variants as mu
 use Rattle.links.specs.declared.Place.{Place}
 use Rattle.links.specs.Links.{B, F, R, allAtB, awaitsResponse, belowB, entry, equalsB, holds, inF, inR, isIdle, muAt, rateAt, withEntry, withMu, withWords}
 use Rattle.sessions.specs.Set.{cut, has, put}
-use Rattle.sessions.proofs.Members.{has-cut-other, has-put-other}
+use Rattle.sessions.proofs.Members.{has-cut-other, has-put-other, is-in}
 use Rattle.tasks.specs.declared.Did.{Did}
 use Rattle.tasks.specs.declared.Eta.{Eta}
 use Rattle.tasks.specs.declared.Kind.{Kind}
@@ -26,7 +26,7 @@ use Rattle.tasks.specs.declared.Tau.the-variants as tau
 use Rattle.tasks.specs.Figure2.{acceptedOf, agreedOf, answeredOf, bottleneckOf, freedOf, idleAtB, joinOf, leaveOf, linkStepOf, probeOf, quiet, responseOf, restrictedOf, setBottleneckOf, stayingOf, updateOf, withoutOf}
 use Rattle.soundness.specs.ProbeCycle.{Waiting, isResponse}
 use Rattle.soundness.specs.Sound.{Held, Sound}
-use Rattle.soundness.proofs.Holding.{is-in, not-held}
+use Rattle.soundness.proofs.Holding.{not-held}
 use Rattle.soundness.proofs.Leaving.{did-leave}
 use Rattle.soundness.proofs.Waits.{entry-still, not-at, not-idle, probe-waits, process-still, still, waiting-still}
 

@@ -13,7 +13,7 @@ use Rattle.links.specs.declared.Place.{Place}
 use Rattle.links.specs.declared.Wanted.the-variants as wanted
 use Rattle.links.specs.Links.{B, F, R, allAtB, belowB, entry, equalsB, inF, isFine, isIdle, muAt, rateAt, withEntry, withWords}
 use Rattle.sessions.specs.Set.{cut, has, put}
-use Rattle.sessions.proofs.Members.{cut-le, has-cut-le, has-cut-same, has-lt, has-or-not}
+use Rattle.sessions.proofs.Members.{cut-le, has-cut-le, has-cut-same, has-lt, has-or-not, is-in, is-out}
 use Rattle.tasks.specs.declared.Kind.{Kind}
 use Rattle.tasks.specs.declared.Kind.the-variants as kind
 use Rattle.tasks.specs.declared.Onward.the-variants as onward
@@ -22,7 +22,7 @@ use Rattle.soundness.specs.LinkDid.{LinkDid, PassedOn}
 use Rattle.soundness.specs.Sound.{Held, Sound}
 use Rattle.soundness.proofs.Changes.{sound-entry, sound-words, zero-within}
 use Rattle.soundness.proofs.Chosen.{has-those-le, those-lt}
-use Rattle.soundness.proofs.Holding.{cut-again, is-in, is-out, move-all, put-again}
+use Rattle.soundness.proofs.Holding.{cut-again, move-all, put-again}
 use Rattle.soundness.proofs.Rules.{did-drop, did-nothing, did-updating, no-leave}
 use Rattle.soundness.proofs.Shares.{sound-free}
 

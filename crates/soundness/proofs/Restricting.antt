@@ -18,7 +18,7 @@ use Rattle.links.specs.declared.Wanted.the-variants as wanted
 use Rattle.links.specs.FCheck.{checkOf, overB, processOf}
 use Rattle.links.specs.Links.{B, F, R, aboveB, entry, holds, inF, isFine, rateAt, withEntry, withMu, withWords}
 use Rattle.sessions.specs.Set.{cut, has, put}
-use Rattle.sessions.proofs.Members.{cut-le, has-cut-le, has-put-other, has-put-same, put-lt}
+use Rattle.sessions.proofs.Members.{cut-le, has-cut-le, has-put-other, has-put-same, is-in, put-lt}
 use Rattle.table.specs.Values.{EtaInRange, KindWithin}
 use Rattle.tasks.specs.declared.Burst.the-variants as burst
 use Rattle.tasks.specs.declared.Eta.{Eta}
@@ -32,7 +32,7 @@ use Rattle.soundness.specs.LinkDid.{LinkDid, PassedOn, isJoin}
 use Rattle.soundness.specs.Sound.{Held, Sound}
 use Rattle.soundness.proofs.Changes.{mu-sound, rate-same, sound-entry, sound-words, zero-within}
 use Rattle.soundness.proofs.Chosen.{has-those-le, those-lt}
-use Rattle.soundness.proofs.Holding.{is-in, move-all, not-held}
+use Rattle.soundness.proofs.Holding.{move-all, not-held}
 use Rattle.soundness.proofs.Moves.{check-moved, sound-moved}
 use Rattle.soundness.proofs.Rules.{did-mu, did-updating, no-leave}
 use Rattle.soundness.proofs.Shares.{b-within}

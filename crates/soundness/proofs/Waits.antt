@@ -22,7 +22,7 @@ use Rattle.links.specs.FCheck.{checkOf, highestOf, overB, processOf, turnOf}
 use Rattle.links.specs.Links.{B, F, R, aboveB, awaitsResponse, entry, entryAt, equalsB, holds, inF, inR, isIdle, muAt, noEntry, rateAt, someOf, thoseOf, waitIn, waitingOf, withEntry, withMu, withWords}
 use Rattle.records.proofs.Somes.{clash}
 use Rattle.sessions.specs.Set.{cut, has, members, put, walk}
-use Rattle.sessions.proofs.Members.{has-lt, has-put-same}
+use Rattle.sessions.proofs.Members.{has-lt, has-put-same, is-in}
 use Rattle.sessions.proofs.Operations.{has-or}
 use Rattle.tasks.specs.declared.Did.{Did}
 use Rattle.tasks.specs.declared.Eta.{Eta}
@@ -32,7 +32,6 @@ use Rattle.tasks.specs.Figure2.{joinOf, linkStepOf, probeOf, restrictedOf, stay
 use Rattle.soundness.specs.ProbeCycle.{Waiting}
 use Rattle.soundness.specs.Sound.{Sound}
 use Rattle.soundness.proofs.Chosen.{those-out}
-use Rattle.soundness.proofs.Holding.{is-in}
 use Rattle.soundness.proofs.Weights.{walk-adds}
 
 -- a Join is taken where the link does not hold the session (h is whether it does), a Probe where it does
