@@ -190,20 +190,44 @@ module _ {S : Type 0} (f g : S → ℕ → S) where
       → walk f a (membersFrom k 0 w) ≡ walk g a (membersFrom k 0 w)
   walk-cong k w h a = walk-cong-from k 0 w (λ j l m a. subst (λ (n : ℕ). f a n ≡ g a n) (omega arith) (h j l m a)) a
 
--- what every step keeps, a loop keeps
+-- what the steps of the members keep, a loop keeps; what the step of one member makes and every step keeps, it makes
 module _ {S : Type 0} (P : S → Type 0) (step : S → ℕ → S) where
-  walk-keeps-from : (k b w : ℕ) → ((a : S) (j : ℕ) → j < k → P a → P (step a (b + j))) → (a : S) → P a → P (walk step a (membersFrom k b w))
-  unfolding walk membersFrom
+  walk-keeps-from : (k b w : ℕ) → ((a : S) (j : ℕ) → j < k → has j w ≡ 1 → P a → P (step a (b + j))) → (a : S) → P a
+      → P (walk step a (membersFrom k b w))
+  unfolding walk membersFrom has
   walk-keeps-from zero b w h a p = p
   walk-keeps-from (suc k) b w h a p =
-      let more : (a : S) (j : ℕ) → j < k → P a → P (step a (suc b + j)) =
-      λ a j l q. subst (λ (n : ℕ). P (step a n)) (omega arith) (h a (suc j) (omega arith) q) in
+      let more : (a : S) (j : ℕ) → j < k → has j (w / 2) ≡ 1 → P a → P (step a (suc b + j)) =
+      λ a j l m q. subst (λ (n : ℕ). P (step a n)) (omega arith) (h a (suc j) (omega arith) m q) in
       ⊎-elim
       (λ e. rw (members-even k b w (w / 2) e refl) (walk-keeps-from k (suc b) (w / 2) more a p))
       (λ e.
       rw (members-odd k b w (w / 2) e refl)
-      (walk-keeps-from k (suc b) (w / 2) more (step a b) (subst (λ (n : ℕ). P (step a n)) (omega arith) (h a 0 (omega arith) p))))
+      (walk-keeps-from k (suc b) (w / 2) more (step a b) (subst (λ (n : ℕ). P (step a n)) (omega arith) (h a 0 (omega arith) e p))))
       (two w)
 
+  pub walk-keeps-at : (k w : ℕ) → ((a : S) (j : ℕ) → j < k → has j w ≡ 1 → P a → P (step a j)) → (a : S) → P a → P (walk step a (membersFrom k 0 w))
+  walk-keeps-at k w h a p = walk-keeps-from k 0 w (λ a j l m q. subst (λ (n : ℕ). P (step a n)) (omega arith) (h a j l m q)) a p
+
   pub walk-keeps : (k w : ℕ) → ((a : S) (j : ℕ) → j < k → P a → P (step a j)) → (a : S) → P a → P (walk step a (membersFrom k 0 w))
-  walk-keeps k w h a p = walk-keeps-from k 0 w (λ a j l q. subst (λ (n : ℕ). P (step a n)) (omega arith) (h a j l q)) a p
+  walk-keeps k w h a p = walk-keeps-at k w (λ a j l m q. h a j l q) a p
+
+  walk-makes-from : (k b w t : ℕ) → t < k → has t w ≡ 1 → ((a : S) → P (step a (b + t))) → ((a : S) (j : ℕ) → j < k → P a → P (step a (b + j)))
+      → (a : S) → P (walk step a (membersFrom k b w))
+  unfolding walk has
+  walk-makes-from zero b w t l m f h a = absurd (omega arith)
+  walk-makes-from (suc k) b w zero l m f h a =
+      rw (members-odd k b w (w / 2) m refl)
+      (walk-keeps-from k (suc b) (w / 2) (λ a j i o q. subst (λ (n : ℕ). P (step a n)) (omega arith) (h a (suc j) (omega arith) q)) (step a b)
+      (subst (λ (n : ℕ). P (step a n)) (omega arith) (f a)))
+  walk-makes-from (suc k) b w (suc t) l m f h a =
+      let later : (a : S) → P (walk step a (membersFrom k (suc b) (w / 2))) =
+      walk-makes-from k (suc b) (w / 2) t (omega arith) m (λ a. subst (λ (n : ℕ). P (step a n)) (omega arith) (f a))
+      (λ a j i q. subst (λ (n : ℕ). P (step a n)) (omega arith) (h a (suc j) (omega arith) q)) in
+      ⊎-elim (λ e. rw (members-even k b w (w / 2) e refl) (later a)) (λ e. rw (members-odd k b w (w / 2) e refl) (later (step a b))) (two w)
+
+  pub walk-makes : (k w t : ℕ) → t < k → has t w ≡ 1 → ((a : S) → P (step a t)) → ((a : S) (j : ℕ) → j < k → P a → P (step a j))
+      → (a : S) → P (walk step a (membersFrom k 0 w))
+  walk-makes k w t l m f h =
+      walk-makes-from k 0 w t l m (λ a. subst (λ (n : ℕ). P (step a n)) (omega arith) (f a))
+      (λ a j i q. subst (λ (n : ℕ). P (step a n)) (omega arith) (h a j i q))
