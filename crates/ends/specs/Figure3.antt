@@ -149,9 +149,10 @@ idleWith z x = keeping z (z .free) mu.Idle x (z .updated) (z .bottlenecked) (z .
 -- lines 44 to 47
 unfoldable pub assignedOf : Source → Rate → SourceDid
 assignedOf z x =
-    cond (atD z x)  -- 45
-    (doing (keeping z (z .free) mu.Idle x (z .updated) true (told.Rate x)) (onward.Send (kind.SetBottleneck true)))  -- 44, 46, 47
-    (doing (idleWith z x) onward.Nothing)  -- 44
+    let q = idleWith z x in  -- 44
+    cond (atD q x)  -- 45
+    (doing (keeping q (q .free) (q .mu) x (q .updated) true (told.Rate x)) (onward.Send (kind.SetBottleneck true)))  -- 46, 47
+    (doing q onward.Nothing)
 
 -- Response (s, τ, λ, η), lines 33 to 47
 unfoldable pub sourceResponseOf : Source → Tau → Rate → SourceDid

@@ -7,7 +7,7 @@ use Prim.Native.Nat.{ℕ, _+_, _≤_, _<_}
 use native.Mathlib.Decide.{ℕ-discrete}
 use native.Mathlib.Omega.{arith}
 use Rattle.fractions.specs.declared.Rate.{Rate}
-use Rattle.fractions.specs.Fraction.{Within, leOf, maxRate, zeroOf}
+use Rattle.fractions.specs.Fraction.{Within, ltOf, maxRate, zeroOf}
 use Rattle.fractions.proofs.Cases.{cases}
 use Rattle.links.specs.declared.Bound.{Bound}
 use Rattle.links.specs.declared.Bound.the-variants as bound
@@ -44,7 +44,7 @@ abbrev BoundWithin : Bound → Type 0
 BoundWithin b = (c : Rate) → b ≡ bound.At c → Within maxRate c
 
 lowered-within : (b : Bound) (x : Rate) → BoundWithin b → Within maxRate x → Within maxRate (loweredOf b x)
-lowered-within (bound.At c) x h w = cases (Within maxRate) (leOf x c) x c (λ e. w) (λ e. h c refl)
+lowered-within (bound.At c) x h w = cases (Within maxRate) (ltOf c x) c x (λ e. h c refl) (λ e. w)
 lowered-within bound.Above x h w = w
 lowered-within bound.TooFine x h w = w
 

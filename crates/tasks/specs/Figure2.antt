@@ -7,7 +7,7 @@ use mathlib.Core.Bool.{Bool, cond, false, true, _&&_}
 use Prim.Native.Nat.{ℕ, _≤_}
 use lib.Dec.{eqb}
 use Rattle.fractions.specs.declared.Rate.{Rate}
-use Rattle.fractions.specs.Fraction.{Sized, leOf, maxRate, zeroOf}
+use Rattle.fractions.specs.Fraction.{Sized, ltOf, maxRate, zeroOf}
 use Rattle.sessions.specs.Set.{cut, put}
 use Rattle.links.specs.declared.Bound.{Bound}
 use Rattle.links.specs.declared.Bound.the-variants as bound
@@ -69,7 +69,7 @@ updating p w o fine = did (waitingOf p w) burst.Update w o fine
 
 -- lines 15 and 35: if λ > B then λ ← B; η ← e
 abbrev pub loweredOf : Bound → Rate → Rate
-loweredOf (bound.At b) x = cond (leOf x b) x b
+loweredOf (bound.At b) x = cond (ltOf b x) b x
 loweredOf bound.Above x = x
 loweredOf bound.TooFine x = x
 

@@ -126,7 +126,7 @@ fn lowered(b: Bound, x: Rate) -> Rate
     ensures { λ r. ⌜ r ≡ loweredOf b x ⌝ }
 {
     match b {
-        Bound::At(y) => { if x.le(y) { x } else { y } }
+        Bound::At(y) => { if y.lt(x) { y } else { x } }
         Bound::Above => x,
         Bound::TooFine => x,
     }

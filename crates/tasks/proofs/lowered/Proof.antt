@@ -10,8 +10,8 @@ use Rattle.tasks.proofs.lowered.Tie as tie
 enum-known-b : tie.Need-enum-known-b
 enum-known-b c = search needs
 
-le-requires : tie.Need-le-requires
-le-requires c κs = (to-limit (c .before .before .before .pre .1), to-limit (subst BoundSized (c .before .b .given .1) (c .before .before .before .pre .0)))
+lt-requires : tie.Need-lt-requires
+lt-requires c κs = (to-limit (subst BoundSized (c .before .b .given .1) (c .before .before .before .pre .0)), to-limit (c .before .before .before .pre .1))
 
 enum-told : tie.Need-enum-told
 enum-told c = search needs
@@ -20,10 +20,10 @@ enum-told-2 : tie.Need-enum-told-2
 enum-told-2 c = search needs
 
 returns : tie.Need-returns
-returns c = rw (c .before .before .before .b .given .1, ← (c .before .le .ensures), c .if1 .taken)
+returns c = rw (c .before .before .before .b .given .1, ← (c .before .lt .ensures), c .if1 .taken)
 
 returns-2 : tie.Need-returns-2
-returns-2 c = rw (c .before .before .before .b .given .1, ← (c .before .le .ensures), c .if1 .left)
+returns-2 c = rw (c .before .before .before .b .given .1, ← (c .before .lt .ensures), c .if1 .left)
 
 returns-3 : tie.Need-returns-3
 returns-3 c = search needs
@@ -34,4 +34,4 @@ returns-4 c = search needs
 pub lowered-spec : {M : Type 1} → statement M
 lowered-spec =
     tie.close
-    (tie.spec enum-known-b le-requires enum-told enum-told-2 returns returns-2 returns-3 returns-4)
+    (tie.spec enum-known-b lt-requires enum-told enum-told-2 returns returns-2 returns-3 returns-4)
