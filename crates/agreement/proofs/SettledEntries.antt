@@ -13,7 +13,7 @@ use Rattle.fractions.proofs.LowestTerms.{lowest-unique}
 use Rattle.handed.specs.Passes.{Passes}
 use Rattle.links.specs.Links.{holds, rateAt}
 use Rattle.table.specs.Values.{SourceWithin, ToldWithin}
-use Rattle.table.specs.Words.{hopFrom, pathOf, placeOf, sourceOf}
+use Rattle.table.specs.Words.{hopOf, placeOf, sourceOf}
 use Rattle.ranges.proofs.FitsMeans.{entry-fits-means, source-fits-means}
 use Rattle.reachable.proofs.Kept.{hop-on}
 use Rattle.table.proofs.InRange.{stop-below}
@@ -35,8 +35,8 @@ on-path-below : (w : List ℕ) (s e : ℕ) → OnPath w s e → e < 64
 on-path-below w s e o = subst (λ (i : ℕ). i < 64) (o .stop) (stop-below w s (o .place))
 
 -- a link that has a hop is on the path
-hop-on-path : (w : List ℕ) (s e : ℕ) → 0 < hopFrom 1 (pathOf w s) e → OnPath w s e
-hop-on-path w s e h = let o = hop-on w s e h in record { place = hopFrom 1 (pathOf w s) e - 1; within = omega (arith, o .upto); stop = o .stop }
+hop-on-path : (w : List ℕ) (s e : ℕ) → 0 < hopOf w s e → OnPath w s e
+hop-on-path w s e h = let o = hop-on w s e h in record { place = hopOf w s e - 1; within = omega (arith, o .upto); stop = o .stop }
 
 module _ (w : List ℕ) (o : Passes w) where
   -- the rates that the source of an active session keeps are in lowest terms

@@ -13,30 +13,12 @@ use Rattle.records.specs.declared.Record.{Record}
 use Rattle.records.specs.declared.Record.the-variants as rec
 use Rattle.records.specs.declared.Refusal.{Refusal}
 use Rattle.records.specs.declared.Verdict.the-variants as verdict
-use Rattle.table.specs.Words.{countOf, hopsOf, packetOf, placeOf, putHops, putPath, sourceOf, stopOf}
+use Rattle.table.specs.Words.{countOf, declaredIn, hopsOf, packetOf, placeOf, putHops, putPath, sourceOf, stopOf}
 use Rattle.sessions.specs.Set.{sizeOf}
 use Rattle.tasks.specs.declared.Packet.{Packet}
 use Rattle.tasks.specs.Figure2.{linkStepOf}
 use Rattle.sending.specs.Sending.{inTurnOf, noneOf, onPathOf, oneIf}
-use Rattle.events.specs.Events.{
-  Step,
-  arriveOf,
-  atDestinationOf,
-  atLinkOf,
-  atSourceOf,
-  changeOf,
-  declareOf,
-  declaredIn,
-  deliverOf,
-  eventOf,
-  joinOf,
-  leaveOf,
-  pathDeclaredIn,
-  refusing,
-  sourceSends,
-  taking,
-  unlessMany,
-}
+use Rattle.events.specs.Events.{Step, arriveOf, atDestinationOf, atLinkOf, atSourceOf, changeOf, declareOf, deliverOf, eventOf, joinOf, leaveOf, pathDeclaredIn, refusing, sourceSends, taking, unlessMany}
 
 -- the step ends with the words w where it is refused
 record Keeps (w : List ℕ) (x : Step) : Type 0 where

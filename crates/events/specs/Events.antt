@@ -19,7 +19,7 @@ use Rattle.records.specs.declared.Verdict.the-variants as verdict
 use Rattle.records.specs.Format.{all}
 use Rattle.records.specs.Limits.{linkLimit, packetLimit}
 use Rattle.sessions.specs.Set.{sizeOf}
-use Rattle.table.specs.Words.{countOf, hopsOf, linkOf, packetOf, placeOf, putHops, putLink, putPath, putPlace, putSource, removed, sourceOf, stopOf}
+use Rattle.table.specs.Words.{countOf, declaredIn, hopsOf, packetOf, placeOf, putHops, putLink, putPath, putPlace, putSource, removed, sourceOf, stopOf}
 use Rattle.tasks.specs.declared.Packet.{Packet}
 use Rattle.tasks.specs.Figure2.{linkStepOf}
 use Rattle.sending.specs.Sending.{inTurnOf, noneOf, onPathOf, oneIf, sendAllOf, sendOnOf}
@@ -78,10 +78,6 @@ deliverOf w i =
     cond (ltb i (countOf w) && inTurnOf w i) (arriveOf w i (packetOf w i)) (refusing refusal.BadPosition w)
 
 -- LINKS AND SESSIONS --------------------------------------------------------------------------------------------------
-
--- link e is declared
-abbrev pub declaredIn : List ℕ → ℕ → Bool
-declaredIn w e = ltb 0 (linkOf w e .capacity)
 
 -- a link of capacity c, with R ← ∅ and F ← ∅ (Figure 2, line 2)
 abbrev pub newLink : ℕ → Link

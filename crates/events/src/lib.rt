@@ -17,9 +17,9 @@ ghost use Rattle.records.specs.Format.{RecordOk};
 ghost use Rattle.records.specs.Run.{verdictNumber};
 ghost use Rattle.records.specs.Limits.{linkLimit, packetLimit};
 ghost use Rattle.table.specs.Values.{PacketInRange};
-ghost use Rattle.table.specs.Words.{countOf, packetOf, putHops, putPath, putPlace, putSource, removed};
+ghost use Rattle.table.specs.Words.{countOf, declaredIn, packetOf, putHops, putPath, putPlace, putSource, removed};
 ghost use Rattle.sending.specs.Sending.{oneIf, sendAllOf, sendOnOf};
-ghost use Rattle.events.specs.Events.{arriveOf, atDestinationOf, atLinkOf, atSourceOf, changeOf, declareOf, declaredIn, deliverOf, ended, eventOf, joinOf, leaveOf, pathDeclaredIn, sourceSends};
+ghost use Rattle.events.specs.Events.{arriveOf, atDestinationOf, atLinkOf, atSourceOf, changeOf, declareOf, deliverOf, ended, eventOf, joinOf, leaveOf, pathDeclaredIn, sourceSends};
 
 // DELIVERY ------------------------------------------------------------------------------------------------------------
 

@@ -9,15 +9,15 @@ use borrow.Author.Tests.{eq-eqb, eqb-false, eqb-true, le-leb, leb-true, lt-ltb, 
 use lib.Dec.{eqb, leb, ltb}
 use Rattle.fractions.proofs.Cases.{and-both, cases, not-false, not-true, or-either}
 use Rattle.links.specs.declared.Total.the-variants as total
-use Rattle.links.specs.Links.{B, isFine, sumOf}
+use Rattle.links.specs.Links.{B, holds, isFine, sumOf}
 use Rattle.records.specs.Format.{all}
 use Rattle.records.proofs.Alls.{all-at, all-below, all-fails}
 use Rattle.records.proofs.Somes.{all-some, clash, implied, implies, not-so}
 use Rattle.sessions.specs.Set.{hasOf}
 use Rattle.ranges.specs.Ranges.{entryFits, linkFits, packetFits, sourceFits, standingFits}
-use Rattle.table.specs.Words.{countOf, hopsOf, linkOf, packetOf, placeOf, sourceOf, stopOf}
+use Rattle.table.specs.Words.{countOf, hopOf, hopsOf, linkOf, packetOf, placeOf, sourceOf, stopOf}
 use Rattle.tasks.specs.Packets.{goesDown, isLeave}
-use Rattle.handed.specs.Handed.{apart, entriesInRange, entriesLive, entriesOnPath, entryInRange, entryLive, entryOnPath, hasJoined, heldAt, hopAt, hopOnPath, isPastC, leaveAhead, leaveToCome, linksInRange, packetOnItsWay, packetOnPath, packetsInRange, packetsOnPath, packetsOnTheirWay, pathDeclared, pathOnce, pathsDeclared, pathsOnce, rowApart, rowInRange, rowLive, rowOnPath, sessionApart, sourceInRange, sourcesInRange, stopDeclared, stopNew, sumFits, sumsFit}
+use Rattle.handed.specs.Handed.{apart, entriesInRange, entriesLive, entriesOnPath, entryInRange, entryLive, entryOnPath, hasJoined, hopOnPath, isPastC, leaveAhead, leaveToCome, linksInRange, packetOnItsWay, packetOnPath, packetsInRange, packetsOnPath, packetsOnTheirWay, pathDeclared, pathOnce, pathsDeclared, pathsOnce, rowApart, rowInRange, rowLive, rowOnPath, sessionApart, sourceInRange, sourcesInRange, stopDeclared, stopNew, sumFits, sumsFit}
 use Rattle.handed.specs.Passes.{LeaveToCome}
 use Rattle.handed.proofs.Ways.{both-not, cond-else, cond-then, hop-down, hop-on, hop-up, not-both, same-way, way-same, within, within-test}
 
@@ -31,13 +31,13 @@ pub links-test : (w : List ℕ) → ((e : ℕ) → e < 64 → linkFits w e ≡ t
 unfolding linksInRange
 links-test w f = all-below 64 (linkFits w) f
 
-pub entries-means : (w : List ℕ) → entriesInRange w ≡ true → (e s : ℕ) → e < 64 → s < 32 → heldAt w e s ≡ true → entryFits w e s ≡ true
+pub entries-means : (w : List ℕ) → entriesInRange w ≡ true → (e s : ℕ) → e < 64 → s < 32 → holds (placeOf w e) s ≡ true → entryFits w e s ≡ true
 unfolding entriesInRange rowInRange entryInRange
-entries-means w h e s l k t = implied (heldAt w e s) (entryFits w e s) (all-at 32 (entryInRange w e) s (all-at 64 (rowInRange w) e h l) k) t
+entries-means w h e s l k t = implied (holds (placeOf w e) s) (entryFits w e s) (all-at 32 (entryInRange w e) s (all-at 64 (rowInRange w) e h l) k) t
 
-pub entries-test : (w : List ℕ) → ((e s : ℕ) → e < 64 → s < 32 → heldAt w e s ≡ true → entryFits w e s ≡ true) → entriesInRange w ≡ true
+pub entries-test : (w : List ℕ) → ((e s : ℕ) → e < 64 → s < 32 → holds (placeOf w e) s ≡ true → entryFits w e s ≡ true) → entriesInRange w ≡ true
 unfolding entriesInRange rowInRange entryInRange
-entries-test w f = all-below 64 (rowInRange w) (λ e l. all-below 32 (entryInRange w e) (λ s k. implies (heldAt w e s) (entryFits w e s) (f e s l k)))
+entries-test w f = all-below 64 (rowInRange w) (λ e l. all-below 32 (entryInRange w e) (λ s k. implies (holds (placeOf w e) s) (entryFits w e s) (f e s l k)))
 
 -- of one source
 source-means : (w : List ℕ) (s : ℕ) → sourceInRange w s ≡ true → (standingFits w s ≡ true) × (cond (hasJoined w s) (sourceFits w s) (not (sourceOf w s .active)) ≡ true)
@@ -166,16 +166,16 @@ unfolding apart rowApart sessionApart
 apart-test w f =
     all-below 64 (rowApart w) (λ e l. all-below 32 (sessionApart w e) (λ s k. both-not (hasOf s (linkOf w e .r)) (hasOf s (linkOf w e .f)) (f e s l k)))
 
-pub held-means : (w : List ℕ) → entriesOnPath w ≡ true → (e s : ℕ) → e < 64 → s < 32 → heldAt w e s ≡ true → 0 < hopAt w e s
+pub held-means : (w : List ℕ) → entriesOnPath w ≡ true → (e s : ℕ) → e < 64 → s < 32 → holds (placeOf w e) s ≡ true → 0 < hopOf w s e
 unfolding entriesOnPath rowOnPath entryOnPath
 held-means w h e s l k t =
-    ltb-true 0 (hopAt w e s) (implied (heldAt w e s) (ltb 0 (hopAt w e s)) (all-at 32 (entryOnPath w e) s (all-at 64 (rowOnPath w) e h l) k) t)
+    ltb-true 0 (hopOf w s e) (implied (holds (placeOf w e) s) (ltb 0 (hopOf w s e)) (all-at 32 (entryOnPath w e) s (all-at 64 (rowOnPath w) e h l) k) t)
 
-pub held-test : (w : List ℕ) → ((e s : ℕ) → e < 64 → s < 32 → heldAt w e s ≡ true → 0 < hopAt w e s) → entriesOnPath w ≡ true
+pub held-test : (w : List ℕ) → ((e s : ℕ) → e < 64 → s < 32 → holds (placeOf w e) s ≡ true → 0 < hopOf w s e) → entriesOnPath w ≡ true
 unfolding entriesOnPath rowOnPath entryOnPath
 held-test w f =
     all-below 64 (rowOnPath w)
-    (λ e l. all-below 32 (entryOnPath w e) (λ s k. implies (heldAt w e s) (ltb 0 (hopAt w e s)) (λ t. lt-ltb 0 (hopAt w e s) (f e s l k t))))
+    (λ e l. all-below 32 (entryOnPath w e) (λ s k. implies (holds (placeOf w e) s) (ltb 0 (hopOf w s e)) (λ t. lt-ltb 0 (hopOf w s e) (f e s l k t))))
 
 -- a Leave that is still to come
 pub leave-means : (w : List ℕ) (s h : ℕ) → leaveToCome w s h ≡ true → LeaveToCome w s h
@@ -194,15 +194,15 @@ leave-test w s h o =
     let t : leaveAhead w s h (o .place) ≡ true = ap₂ _&&_ (eq-eqb (p .session) s (o .session)) (ap₂ _&&_ (o .leave) (le-leb (p .hop) h (o .hop))) in
     ap not (all-fails (countOf w) (λ i. not (leaveAhead w s h i)) (o .place) (o .flying) (ap not t))
 
-pub live-means : (w : List ℕ) → entriesLive w ≡ true → (e s : ℕ) → e < 64 → s < 32 → heldAt w e s ≡ true → sourceOf w s .active ≡ false
-    → LeaveToCome w s (hopAt w e s)
+pub live-means : (w : List ℕ) → entriesLive w ≡ true → (e s : ℕ) → e < 64 → s < 32 → holds (placeOf w e) s ≡ true → sourceOf w s .active ≡ false
+    → LeaveToCome w s (hopOf w s e)
 unfolding entriesLive rowLive entryLive
 live-means w h e s l k t a =
-    leave-means w s (hopAt w e s)
-    (go (or-either (sourceOf w s .active) (leaveToCome w s (hopAt w e s))
-    (implied (heldAt w e s) (sourceOf w s .active || leaveToCome w s (hopAt w e s)) (all-at 32 (entryLive w e) s (all-at 64 (rowLive w) e h l) k) t)))
+    leave-means w s (hopOf w s e)
+    (go (or-either (sourceOf w s .active) (leaveToCome w s (hopOf w s e))
+    (implied (holds (placeOf w e) s) (sourceOf w s .active || leaveToCome w s (hopOf w s e)) (all-at 32 (entryLive w e) s (all-at 64 (rowLive w) e h l) k) t)))
   where
-    go : (sourceOf w s .active ≡ true) ⊎ (leaveToCome w s (hopAt w e s) ≡ true) → leaveToCome w s (hopAt w e s) ≡ true
+    go : (sourceOf w s .active ≡ true) ⊎ (leaveToCome w s (hopOf w s e) ≡ true) → leaveToCome w s (hopOf w s e) ≡ true
     go (inl q) = absurd (clash (sourceOf w s .active) q a)
     go (inr q) = q
 
@@ -211,7 +211,7 @@ active-or true b f = refl
 active-or false b f = f refl
 
 pub live-test : (w : List ℕ)
-    → ((e s : ℕ) → e < 64 → s < 32 → heldAt w e s ≡ true → sourceOf w s .active ≡ false → LeaveToCome w s (hopAt w e s))
+    → ((e s : ℕ) → e < 64 → s < 32 → holds (placeOf w e) s ≡ true → sourceOf w s .active ≡ false → LeaveToCome w s (hopOf w s e))
     → entriesLive w ≡ true
 unfolding entriesLive rowLive entryLive
 live-test w f =
@@ -219,8 +219,8 @@ live-test w f =
     (λ e l.
     all-below 32 (entryLive w e)
     (λ s k.
-    implies (heldAt w e s) (sourceOf w s .active || leaveToCome w s (hopAt w e s))
-    (λ t. active-or (sourceOf w s .active) (leaveToCome w s (hopAt w e s)) (λ a. leave-test w s (hopAt w e s) (f e s l k t a)))))
+    implies (holds (placeOf w e) s) (sourceOf w s .active || leaveToCome w s (hopOf w s e))
+    (λ t. active-or (sourceOf w s .active) (leaveToCome w s (hopOf w s e)) (λ a. leave-test w s (hopOf w s e) (f e s l k t a)))))
 
 -- SUMS ----------------------------------------------------------------------------------------------------------------
 

@@ -6,12 +6,12 @@ use mathlib.Core.Path.{ap₂, _≡_}
 use Prim.Native.Nat.{ℕ}
 use Rattle.fractions.proofs.Cases.{and-both}
 use Rattle.ranges.specs.Ranges.{countFits}
-use Rattle.handed.specs.Handed.{apart, entriesInRange, entriesLive, entriesOnPath, fieldsInRange, heldAt, hopAt, linksInRange, linksPass, packetsInRange, packetsOnPath, packetsOnTheirWay, passes14Of, pathsDeclared, pathsOnce, pathsPass, sourcesInRange, sumsFit}
+use Rattle.handed.specs.Handed.{apart, entriesInRange, entriesLive, entriesOnPath, fieldsInRange, linksInRange, linksPass, packetsInRange, packetsOnPath, packetsOnTheirWay, passes14Of, pathsDeclared, pathsOnce, pathsPass, sourcesInRange, sumsFit}
 use Rattle.handed.specs.Passes.{Passes}
 use Rattle.handed.proofs.Clauses.{apart-means, apart-test, declared-means, declared-test, down-means, entries-means, entries-test, fine-means, held-means, held-test, joined-means, known-means, links-means, links-test, live-means, live-test, on-path-test, once-means, once-test, packets-means, packets-test, sources-means, sources-test, standing-means, sums-test, up-means, way-means, way-test, within-means}
 
 pub passes-means : (w : List ℕ) → passes14Of w ≡ true → Passes w
-unfolding passes14Of fieldsInRange pathsPass linksPass heldAt hopAt
+unfolding passes14Of fieldsInRange pathsPass linksPass
 passes-means w h =
     let a = and-both (fieldsInRange w) (pathsPass w && linksPass w) h in
     let b = and-both (pathsPass w) (linksPass w) (a .1) in
@@ -47,7 +47,7 @@ passes-means w h =
     }
 
 pub means-passes : (w : List ℕ) → Passes w → passes14Of w ≡ true
-unfolding passes14Of fieldsInRange pathsPass linksPass heldAt hopAt
+unfolding passes14Of fieldsInRange pathsPass linksPass
 means-passes w o =
     let f : fieldsInRange w ≡ true = ap₂ _&&_ (o .count) (ap₂ _&&_ (links-test w (o .links)) (ap₂ _&&_ (entries-test w (o .entries)) (ap₂ _&&_ (sources-test w (o .standing) (o .sources) (o .joined)) (packets-test w (o .packets))))) in
     let p : pathsPass w ≡ true = ap₂ _&&_ (declared-test w (o .declared)) (ap₂ _&&_ (once-test w (o .once)) (ap₂ _&&_ (on-path-test w (o .known) (o .down) (o .up)) (way-test w (o .way)))) in

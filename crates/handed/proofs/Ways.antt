@@ -9,6 +9,7 @@ use Rattle.fractions.proofs.Cases.{and-both, not-true}
 use Rattle.links.specs.declared.Total.{Total}
 use Rattle.links.specs.declared.Total.the-variants as total
 use Rattle.records.proofs.Somes.{clash}
+use Rattle.tasks.specs.Packets.{sameWay}
 use Rattle.handed.specs.Handed.{hopOnPath, isPastC}
 
 pub hop-down : (n h : ℕ) (d : Bool) → hopOnPath n d h ≡ true → d ≡ true → (0 < h) × (h ≤ n + 1)
@@ -23,11 +24,11 @@ pub hop-on : (n h : ℕ) (d : Bool) → (d ≡ true → (0 < h) × (h ≤ n + 1)
 hop-on n h true f g = ap₂ _&&_ (lt-ltb 0 h (f refl .0)) (le-leb h (n + 1) (f refl .1))
 hop-on n h false f g = le-leb h n (g refl)
 
-pub way-same : (d g : Bool) → cond d g (not g) ≡ true → d ≡ g
+pub way-same : (d g : Bool) → sameWay d g ≡ true → d ≡ g
 way-same true g e = sym e
 way-same false g e = sym (not-true g e)
 
-pub same-way : (d g : Bool) → d ≡ g → cond d g (not g) ≡ true
+pub same-way : (d g : Bool) → d ≡ g → sameWay d g ≡ true
 same-way true g e = sym e
 same-way false g e = ap not (sym e)
 

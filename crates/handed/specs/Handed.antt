@@ -9,24 +9,16 @@ use Prim.Native.Nat.{ℕ, _+_}
 use lib.Dec.{eqb, leb, ltb}
 use Rattle.links.specs.declared.Total.{Total}
 use Rattle.links.specs.declared.Total.the-variants as total
-use Rattle.links.specs.Links.{B, isFine, sumOf}
+use Rattle.links.specs.Links.{B, holds, isFine, sumOf}
 use Rattle.records.specs.Format.{all}
 use Rattle.sessions.specs.Set.{hasOf}
 use Rattle.ranges.specs.Ranges.{countFits, entryFits, linkFits, packetFits, sourceFits, standingFits}
-use Rattle.table.specs.Words.{countOf, hopFrom, hopsOf, linkOf, packetOf, pathOf, placeOf, sourceOf, stopOf}
-use Rattle.tasks.specs.Packets.{goesDown, isLeave}
+use Rattle.table.specs.Words.{countOf, declaredIn, hopOf, hopsOf, linkOf, packetOf, placeOf, sourceOf, stopOf}
+use Rattle.tasks.specs.Packets.{goesDown, isLeave, sameWay}
 
 -- session s has joined: it has a path
 unfoldable pub hasJoined : List ℕ → ℕ → Bool
 hasJoined w s = ltb 0 (hopsOf w s)
-
--- link e holds session s: it is in R or in F there
-unfoldable pub heldAt : List ℕ → ℕ → ℕ → Bool
-heldAt w e s = hasOf s (linkOf w e .r) || hasOf s (linkOf w e .f)
-
--- the hop of link e on the path of session s, or 0 where it is not on it
-unfoldable pub hopAt : List ℕ → ℕ → ℕ → ℕ
-hopAt w e s = hopFrom 1 (pathOf w s) e
 
 -- "A FIELD OUTSIDE ITS RANGE, A RATE NOT IN LOWEST TERMS" -------------------------------------------------------------
 
@@ -34,7 +26,7 @@ unfoldable pub linksInRange : List ℕ → Bool
 linksInRange w = all 64 (linkFits w)
 
 unfoldable pub entryInRange : List ℕ → ℕ → ℕ → Bool
-entryInRange w e s = not (heldAt w e s) || entryFits w e s
+entryInRange w e s = not (holds (placeOf w e) s) || entryFits w e s
 
 unfoldable pub rowInRange : List ℕ → ℕ → Bool
 rowInRange w e = all 32 (entryInRange w e)
@@ -58,7 +50,7 @@ fieldsInRange w = countFits w && (linksInRange w && (entriesInRange w && (source
 -- "A PATH OVER AN UNDECLARED LINK OR OVER ONE TWICE" ------------------------------------------------------------------
 
 unfoldable pub stopDeclared : List ℕ → ℕ → ℕ → Bool
-stopDeclared w s i = ltb 0 (linkOf w (stopOf w s i) .capacity)
+stopDeclared w s i = declaredIn w (stopOf w s i)
 
 unfoldable pub pathDeclared : List ℕ → ℕ → Bool
 pathDeclared w s = all (hopsOf w s) (stopDeclared w s)
@@ -95,7 +87,7 @@ packetsOnPath w = all (countOf w) (packetOnPath w)
 unfoldable pub packetOnItsWay : List ℕ → ℕ → Bool
 packetOnItsWay w i =
     let p = packetOf w i in
-    cond (p .down) (goesDown (p .kind)) (not (goesDown (p .kind)))
+    sameWay (p .down) (goesDown (p .kind))
 
 unfoldable pub packetsOnTheirWay : List ℕ → Bool
 packetsOnTheirWay w = all (countOf w) (packetOnItsWay w)
@@ -114,7 +106,7 @@ apart w = all 64 (rowApart w)
 -- "AN ENTRY OFF ITS SESSION'S PATH" -----------------------------------------------------------------------------------
 
 unfoldable pub entryOnPath : List ℕ → ℕ → ℕ → Bool
-entryOnPath w e s = not (heldAt w e s) || ltb 0 (hopAt w e s)
+entryOnPath w e s = not (holds (placeOf w e) s) || ltb 0 (hopOf w s e)
 
 unfoldable pub rowOnPath : List ℕ → ℕ → Bool
 rowOnPath w e = all 32 (entryOnPath w e)
@@ -135,7 +127,7 @@ unfoldable pub leaveToCome : List ℕ → ℕ → ℕ → Bool
 leaveToCome w s h = not (all (countOf w) (λ i. not (leaveAhead w s h i)))
 
 unfoldable pub entryLive : List ℕ → ℕ → ℕ → Bool
-entryLive w e s = not (heldAt w e s) || (sourceOf w s .active || leaveToCome w s (hopAt w e s))
+entryLive w e s = not (holds (placeOf w e) s) || (sourceOf w s .active || leaveToCome w s (hopOf w s e))
 
 unfoldable pub rowLive : List ℕ → ℕ → Bool
 rowLive w e = all 32 (entryLive w e)

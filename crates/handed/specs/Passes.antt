@@ -9,7 +9,7 @@ use Rattle.links.specs.declared.Place.{Place}
 use Rattle.links.specs.declared.Total.the-variants as total
 use Rattle.links.specs.Links.{B, holds, inF, inR, isFine, sumOf}
 use Rattle.ranges.specs.Ranges.{countFits, entryFits, linkFits, packetFits, sourceFits, standingFits}
-use Rattle.table.specs.Words.{countOf, hopFrom, hopsOf, linkOf, packetOf, pathOf, placeOf, sourceOf, stopOf}
+use Rattle.table.specs.Words.{countOf, hopOf, hopsOf, linkOf, packetOf, placeOf, sourceOf, stopOf}
 use Rattle.tasks.specs.Packets.{goesDown, isLeave}
 
 -- a Leave of session s that hop h is still to see
@@ -39,8 +39,8 @@ pub record Passes (w : List ℕ) : Type 0 where
   pub way : (i : ℕ) → i < countOf w → packetOf w i .down ≡ goesDown (packetOf w i .kind)
   -- links and entries
   pub apart : (e s : ℕ) → e < 64 → s < 32 → inR (placeOf w e) s ≡ true → inF (placeOf w e) s ≡ false
-  pub on-path : (e s : ℕ) → e < 64 → s < 32 → holds (placeOf w e) s ≡ true → 0 < hopFrom 1 (pathOf w s) e
-  pub live : (e s : ℕ) → e < 64 → s < 32 → holds (placeOf w e) s ≡ true → sourceOf w s .active ≡ false → LeaveToCome w s (hopFrom 1 (pathOf w s) e)
+  pub on-path : (e s : ℕ) → e < 64 → s < 32 → holds (placeOf w e) s ≡ true → 0 < hopOf w s e
+  pub live : (e s : ℕ) → e < 64 → s < 32 → holds (placeOf w e) s ≡ true → sourceOf w s .active ≡ false → LeaveToCome w s (hopOf w s e)
   pub within-C : (e : ℕ) → e < 64 → sumOf (placeOf w e) ≡ total.PastC → ⊥
   pub fine : (e : ℕ) → e < 64 → isFine (B (placeOf w e)) ≡ true
 

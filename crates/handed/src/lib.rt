@@ -1,24 +1,18 @@
 // 01, refusal 14: the test of a table that is handed in.
 ghost use mathlib.Core.Path.{_≡_};
 ghost use Prim.Native.Nat.{_≤_, _<_};
-ghost use Rattle.handed.specs.Handed.{apart, entriesInRange, entriesLive, entriesOnPath, entryInRange, entryLive, entryOnPath, fieldsInRange, heldAt, hopAt, hopOnPath, isPastC, leaveAhead, leaveToCome, linksInRange, linksPass, packetOnItsWay, packetOnPath, packetsInRange, packetsOnPath, packetsOnTheirWay, passes14Of, pathDeclared, pathOnce, pathsDeclared, pathsOnce, pathsPass, rowApart, rowInRange, rowLive, rowOnPath, sessionApart, sourceInRange, sourcesInRange, stopDeclared, stopNew, sumFits, sumsFit};
+ghost use Rattle.links.specs.Links.{holds};
+ghost use Rattle.table.specs.Words.{placeOf};
+ghost use Rattle.handed.specs.Handed.{apart, entriesInRange, entriesLive, entriesOnPath, entryInRange, entryLive, entryOnPath, fieldsInRange, hopOnPath, isPastC, leaveAhead, leaveToCome, linksInRange, linksPass, packetOnItsWay, packetOnPath, packetsInRange, packetsOnPath, packetsOnTheirWay, passes14Of, pathDeclared, pathOnce, pathsDeclared, pathsOnce, pathsPass, rowApart, rowInRange, rowLive, rowOnPath, sessionApart, sourceInRange, sourcesInRange, stopDeclared, stopNew, sumFits, sumsFit};
 use links::Total;
 
 // Whether link e holds session s.
 fn held_at(t: &[u64; 9153], e: usize, s: usize) -> bool
     requires { ⌜ (e < 64) × (s < 32) ⌝ }
-    ensures { λ r. ⌜ r ≡ heldAt (now (t .entry)) e s ⌝ }
+    ensures { λ r. ⌜ r ≡ holds (placeOf (now (t .entry)) e) s ⌝ }
 {
     let l = table::link_at(t, e);
     sessions::has(l.r, s as u32) || sessions::has(l.f, s as u32)
-}
-
-// The hop of link e on the path of s, or 0 where it is not on it.
-fn hop_at(t: &[u64; 9153], e: usize, s: usize) -> u32
-    requires { ⌜ s < 32 ⌝ }
-    ensures { λ r. ⌜ r ≡ hopAt (now (t .entry)) e s ⌝ }
-{
-    table::hop_of(t, s, e)
 }
 
 // "A FIELD OUTSIDE ITS RANGE, A RATE NOT IN LOWEST TERMS" -------------------------------------------------------------
@@ -239,7 +233,7 @@ fn packet_on_its_way(t: &[u64; 9153], i: usize) -> bool
     let p = table::packet_at(t, i);
     let kind = p.kind;
     let way = tasks::goes_down(kind);
-    if p.down { way } else { !way }
+    tasks::same_way(p.down, way)
 }
 
 fn packets_on_their_way(t: &[u64; 9153]) -> bool
@@ -299,7 +293,7 @@ fn entry_on_path(t: &[u64; 9153], e: usize, s: usize) -> bool
     if !held_at(t, e, s) {
         return true;
     }
-    let h = hop_at(t, e, s);
+    let h = table::hop_of(t, s, e);
     0 < h
 }
 
@@ -367,7 +361,7 @@ fn entry_live(t: &[u64; 9153], e: usize, s: usize) -> bool
     if z.active {
         return true;
     }
-    let h = hop_at(t, e, s);
+    let h = table::hop_of(t, s, e);
     leave_to_come(t, s, h)
 }
 

@@ -7,12 +7,12 @@ use mathlib.Core.Path.{_≡_, ap, subst, sym, _∙_}
 use Prim.Native.Nat.{ℕ, _<_, _≤_}
 use native.Mathlib.Omega.{arith}
 use Rattle.ends.specs.declared.Source.{Source}
-use Rattle.sending.specs.Sending.{burstKind, hopOf, inTurnOf}
+use Rattle.sending.specs.Sending.{burstKind, inTurnOf}
 use Rattle.fractions.proofs.Cases.{order}
 use Rattle.links.specs.declared.Place.{Place}
 use Rattle.soundness.specs.LinkDid.{LinkDid, isJoin}
 use Rattle.soundness.specs.Sound.{Held}
-use Rattle.table.specs.Words.{countOf, hopsOf, packetOf, packetsOf, placeOf}
+use Rattle.table.specs.Words.{countOf, hopOf, hopsOf, packetOf, packetsOf, placeOf}
 use Rattle.tasks.specs.declared.Did.{Did}
 use Rattle.tasks.specs.declared.Packet.{Packet}
 use Rattle.tasks.specs.Packets.{isLeave}

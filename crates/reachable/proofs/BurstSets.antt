@@ -9,7 +9,8 @@ use native.Mathlib.Omega.{arith}
 use borrow.Author.Tests.{eqb-false, ne-eqb}
 use lib.Dec.{eqb}
 use lib.ListN.{length}
-use Rattle.sending.specs.Sending.{addOnPath, hopOf, onPathOf}
+use Rattle.sending.specs.Sending.{addOnPath, onPathOf}
+use Rattle.table.specs.Words.{hopOf}
 use Rattle.fractions.proofs.Cases.{cases}
 use Rattle.sessions.specs.Set.{consIf, has, members, membersFrom, put, sizeOf}
 use Rattle.sessions.proofs.Counts.{ones-in}

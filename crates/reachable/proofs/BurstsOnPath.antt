@@ -8,12 +8,12 @@ use mathlib.Core.Path.{_≡_, ap}
 use Prim.Native.Nat.{ℕ, _<_, _≤_}
 use native.Mathlib.Omega.{arith}
 use lib.ListN.{length}
-use Rattle.sending.specs.Sending.{hopOf, onPathOf}
+use Rattle.sending.specs.Sending.{onPathOf}
 use Rattle.handed.specs.Passes.{Passes}
 use Rattle.soundness.proofs.Holding.{held-holds}
 use Rattle.soundness.specs.LinkDid.{LinkDid, isJoin}
 use Rattle.soundness.specs.Sound.{Held}
-use Rattle.table.specs.Words.{countOf, hopsOf, packetOf, placeOf}
+use Rattle.table.specs.Words.{countOf, hopOf, hopsOf, packetOf, placeOf}
 use Rattle.tasks.specs.declared.Packet.{Packet}
 use Rattle.reachable.specs.Invariant.{Safe}
 use Rattle.reachable.specs.Reachable.{Reachable}

@@ -7,14 +7,14 @@ use mathlib.Core.Path.{_≡_, ap, refl, subst, sym, _∙_}
 use Prim.Native.Nat.{ℕ, _+_, _<_, _≤_}
 use native.Mathlib.Decide.{ℕ-discrete}
 use native.Mathlib.Omega.{arith}
-use Rattle.sending.specs.Sending.{burstKind, hopOf, nextHop, sentFrom}
+use Rattle.sending.specs.Sending.{burstKind, nextHop, sentFrom}
 use Rattle.links.specs.declared.Place.{Place}
 use Rattle.soundness.proofs.KeepsWaiting.{keeps-waiting}
 use Rattle.soundness.proofs.SendsCycle.{sends-for-cycle, waits-where-sent}
 use Rattle.soundness.specs.LinkDid.{GoesOn, isJoin}
 use Rattle.soundness.specs.ProbeCycle.{Waiting, inCycle, isResponse, sendsCycle}
 use Rattle.soundness.specs.Sound.{Held}
-use Rattle.table.specs.Words.{countOf, hopsOf, packetOf, placeOf}
+use Rattle.table.specs.Words.{countOf, hopOf, hopsOf, packetOf, placeOf}
 use Rattle.tasks.specs.declared.Burst.{Burst}
 use Rattle.tasks.specs.declared.Burst.the-variants as burst
 use Rattle.tasks.specs.declared.Did.{Did}

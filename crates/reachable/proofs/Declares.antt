@@ -5,11 +5,10 @@ use mathlib.Core.Path.{_≡_, ap, subst, sym, _∙_}
 use Prim.Native.Nat.{ℕ, _<_, _≤_}
 use Rattle.ends.specs.declared.Source.{Source}
 use Rattle.events.specs.Events.{declareOf}
-use Rattle.sending.specs.Sending.{hopOf}
 use Rattle.links.specs.declared.Place.{Place}
 use Rattle.soundness.proofs.Holding.{nobody-held}
 use Rattle.soundness.specs.Sound.{Held}
-use Rattle.table.specs.Words.{packetsOf, placeOf}
+use Rattle.table.specs.Words.{hopOf, packetsOf, placeOf}
 use Rattle.reachable.specs.Invariant.{AllFollowed, EntryOk, Inv, Reaches, activeIn}
 use Rattle.reachable.proofs.DeclareSteps.{Declared, declare-either}
 use Rattle.reachable.proofs.Follows.{followed-same}

@@ -8,7 +8,8 @@ use native.Mathlib.Omega.{arith}
 use borrow.Author.Tests.{eq-eqb}
 use lib.ListN.{drop, length, take}
 use lib.Seq.{getD-take, length-take-le, split-at}
-use Rattle.sending.specs.Sending.{inTurnOf, sameLane, sameWay}
+use Rattle.sending.specs.Sending.{inTurnOf, sameLane}
+use Rattle.tasks.specs.Packets.{sameWay}
 use Rattle.fractions.proofs.Cases.{not-true}
 use Rattle.records.proofs.Alls.{all-at}
 use Rattle.records.proofs.Somes.{clash}

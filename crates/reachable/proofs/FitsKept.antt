@@ -76,13 +76,13 @@ fits-appended w p h g f =
 pub sound-in-range : {p : Place} → Sound p → PlaceInRange p
 sound-in-range s = record {
   link = record { capacity = s .workable .capacity; r = s .r32; f = s .f32 };
-  entries = record { all = s .workable .rates .many; rate = s .workable .rates .sized };
+  entries = s .workable .rates;
 }
 
 pub fits-place : (w : List ℕ) (e : ℕ) (p : Place) → e < 64 → Sound p → Fits w → Fits (putPlace w e p)
 fits-place w e p l s f =
     let g : PlaceInRange p = sound-in-range s in
-    let n : length (p .entries) ≡ 32 = g .entries .all in
+    let n : length (p .entries) ≡ 32 = g .entries .many in
     let b : placeOf (putPlace w e p) e ≡ p = place-back w e p (f .long) l g in
     fits-at-link
     w

@@ -11,7 +11,7 @@ use lib.ListN.{drop, getD, length}
 use lib.Seq.{getD-drop, getD-take}
 use Rattle.ends.specs.declared.Source.{Source}
 use Rattle.ends.specs.Figure3.{D, joiningOf}
-use Rattle.events.specs.Events.{Step, declaredIn, joinOf, pathDeclaredIn, sourceSends}
+use Rattle.events.specs.Events.{Step, joinOf, pathDeclaredIn, sourceSends}
 use Rattle.sending.specs.Sending.{noneOf, sentFrom}
 use Rattle.fractions.proofs.Cases.{and-both, cases, not-true}
 use Rattle.fractions.proofs.Ranges.{whole-within}
@@ -23,7 +23,7 @@ use Rattle.records.proofs.Alls.{all-at}
 use Rattle.records.specs.Format.{differ, isNew, linksOk, pathOk, restOk}
 use Rattle.soundness.specs.Sound.{Held}
 use Rattle.table.specs.Values.{SourceWithin}
-use Rattle.table.specs.Words.{countOf, hopsOf, linkOf, packetOf, packetsOf, pathOf, placeOf, putHops, putPath, putSource, sourceOf, stopOf}
+use Rattle.table.specs.Words.{countOf, declaredIn, hopsOf, linkOf, packetOf, packetsOf, pathOf, placeOf, putHops, putPath, putSource, sourceOf, stopOf}
 use Rattle.ranges.proofs.FitsMeans.{source-within}
 use Rattle.table.proofs.InRange.{path-stop}
 use Rattle.table.proofs.Packets.{length-packets, packets-at}

@@ -7,13 +7,12 @@ use Prim.Native.Nat.{ℕ, _+_, _<_, _≤_}
 use lib.ListN.{length}
 use Rattle.ends.specs.declared.Source.{Source}
 use Rattle.events.specs.Events.{joinOf}
-use Rattle.sending.specs.Sending.{hopOf}
 use Rattle.fractions.specs.declared.Rate.{Rate}
 use Rattle.links.specs.declared.Place.{Place}
 use Rattle.records.proofs.Somes.{clash}
 use Rattle.records.specs.Format.{pathOk}
 use Rattle.soundness.specs.Sound.{Held}
-use Rattle.table.specs.Words.{packetsOf, placeOf}
+use Rattle.table.specs.Words.{hopOf, packetsOf, placeOf}
 use Rattle.tasks.specs.declared.Packet.{Packet}
 use Rattle.reachable.specs.Invariant.{AllFollowed, EntryOk, Inv, Reaches, activeIn, end, next}
 use Rattle.reachable.proofs.Follows.{followed-same}

@@ -7,8 +7,7 @@ use Prim.Native.Nat.{ℕ, zero, suc, _-_, _<_, _≤_}
 use native.Mathlib.Decide.{ℕ-discrete}
 use native.Mathlib.Omega.{arith}
 use lib.ListN.{getD, length}
-use Rattle.sending.specs.Sending.{hopOf}
-use Rattle.table.specs.Words.{hopFrom, hopsOf, linkOf, packetsOf, pathOf, sourceOf, stopOf}
+use Rattle.table.specs.Words.{hopFrom, hopOf, hopsOf, linkOf, packetsOf, pathOf, sourceOf, stopOf}
 use Rattle.table.proofs.Hops.{hop-from-first, hop-of-stop}
 use Rattle.table.proofs.InRange.{path-length, path-stop}
 use Rattle.tasks.specs.declared.Packet.{Packet}

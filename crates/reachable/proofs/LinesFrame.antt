@@ -4,10 +4,9 @@ use mathlib.Core.Bool.{false}
 use mathlib.Core.List.{List, []}
 use mathlib.Core.Path.{_≡_, subst, sym, _∙_}
 use Prim.Native.Nat.{ℕ, _<_, _≤_}
-use Rattle.sending.specs.Sending.{hopOf}
 use Rattle.links.specs.declared.Place.{Place}
 use Rattle.soundness.specs.Sound.{Held}
-use Rattle.table.specs.Words.{hopsOf, packetsOf, pathOf, placeOf}
+use Rattle.table.specs.Words.{hopOf, hopsOf, packetsOf, pathOf, placeOf}
 use Rattle.reachable.specs.Invariant.{AllFollowed, Inv, Reaches, Safe, activeIn}
 use Rattle.reachable.proofs.Follows.{followed-same}
 use Rattle.reachable.proofs.Kept.{entry-kept, hop-on}

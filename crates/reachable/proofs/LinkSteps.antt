@@ -7,13 +7,13 @@ use Prim.Native.Nat.{ℕ, _+_, _-_, _<_, _≤_}
 use native.Mathlib.Omega.{arith}
 use lib.ListN.{length, length-append}
 use Rattle.events.specs.Events.{Step, atLinkOf}
-use Rattle.sending.specs.Sending.{burstKind, hopOf, onPathOf, oneIf, sendAllOf, sendOnOf}
+use Rattle.sending.specs.Sending.{burstKind, onPathOf, oneIf, sendAllOf, sendOnOf}
 use Rattle.fractions.proofs.Cases.{cases}
 use Rattle.sessions.specs.Set.{members, sizeOf}
 use Rattle.soundness.proofs.EveryRule.{did-link}
 use Rattle.soundness.specs.LinkDid.{LinkDid}
 use Rattle.table.specs.Values.{KindWithin}
-use Rattle.table.specs.Words.{countOf, hopsOf, packetOf, packetsOf, pathOf, placeOf, putPlace, removed, sourceOf, stopOf}
+use Rattle.table.specs.Words.{countOf, hopOf, hopsOf, packetOf, packetsOf, pathOf, placeOf, putPlace, removed, sourceOf, stopOf}
 use Rattle.table.proofs.InRange.{stop-below}
 use Rattle.table.proofs.ReadBack.{place-back}
 use Rattle.table.proofs.Unchanged.{count-after-place, packets-after-place, path-after-place, place-other, source-after-place}

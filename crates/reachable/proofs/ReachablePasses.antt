@@ -6,7 +6,6 @@ use mathlib.Core.Path.{_≡_, subst, sym, _∙_}
 use Prim.Native.Nat.{ℕ, _<_}
 use native.Mathlib.Omega.{arith}
 use borrow.Author.Tests.{ne-eqb}
-use Rattle.sending.specs.Sending.{hopOf}
 use Rattle.handed.specs.Handed.{passes14Of}
 use Rattle.handed.specs.Passes.{LeaveToCome, Passes}
 use Rattle.handed.proofs.Passing.{means-passes}
@@ -15,7 +14,7 @@ use Rattle.sessions.specs.Set.{has}
 use Rattle.soundness.proofs.Holding.{holds-held}
 use Rattle.sessions.proofs.Members.{is-in}
 use Rattle.soundness.proofs.Shares.{sound-not-past}
-use Rattle.table.specs.Words.{countOf, packetOf, packetsOf, placeOf}
+use Rattle.table.specs.Words.{countOf, hopOf, packetOf, packetsOf, placeOf}
 use Rattle.table.proofs.Packets.{length-packets, packets-at}
 use Rattle.reachable.specs.Invariant.{Inv, LeaveFor, Reaches}
 use Rattle.reachable.specs.Reachable.{Reachable}

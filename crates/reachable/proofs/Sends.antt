@@ -5,10 +5,10 @@ use mathlib.Core.Path.{_≡_, ap, ap₂, refl, sym, _∙_}
 use Prim.Native.Nat.{ℕ, suc, _+_, _<_, _≤_}
 use native.Mathlib.Omega.{arith}
 use lib.ListN.{length}
-use Rattle.sending.specs.Sending.{burstKind, hopOf, oneIf, sendOnOf, sendUpOf, sentFrom}
+use Rattle.sending.specs.Sending.{burstKind, oneIf, sendOnOf, sendUpOf, sentFrom}
 use Rattle.sessions.specs.Set.{walk}
 use Rattle.table.specs.Values.{PacketWithin}
-use Rattle.table.specs.Words.{appended, countOf, hopFrom, packetsOf, pathOf}
+use Rattle.table.specs.Words.{appended, countOf, hopFrom, hopOf, packetsOf, pathOf}
 use Rattle.ranges.proofs.FitsMeans.{packet-within}
 use Rattle.table.proofs.Packets.{count-appended, packets-appended}
 use Rattle.table.proofs.Unchanged.{path-after-appended}

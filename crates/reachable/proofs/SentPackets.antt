@@ -6,12 +6,12 @@ use mathlib.Core.Logic.{_⊎_, inl, inr}
 use mathlib.Core.Path.{_≡_, ap, refl, subst, sym, _∙_}
 use Prim.Native.Nat.{ℕ, _+_, _-_, _<_, _≤_}
 use native.Mathlib.Omega.{arith}
-use Rattle.sending.specs.Sending.{hopOf, nextHop, sentFrom}
+use Rattle.sending.specs.Sending.{nextHop, sentFrom}
 use Rattle.records.proofs.Somes.{clash}
 use Rattle.soundness.specs.LinkDid.{GoesOn, isJoin}
 use Rattle.soundness.specs.ProbeCycle.{isResponse}
 use Rattle.table.specs.Values.{KindWithin}
-use Rattle.table.specs.Words.{hopsOf}
+use Rattle.table.specs.Words.{hopOf, hopsOf}
 use Rattle.table.proofs.InRange.{hops-most}
 use Rattle.tasks.specs.declared.Kind.{Kind}
 use Rattle.tasks.specs.declared.Kind.the-variants as kind

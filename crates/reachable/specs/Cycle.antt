@@ -6,12 +6,11 @@ use mathlib.Core.List.{List, [], _∷_}
 use mathlib.Core.Path.{_≡_}
 use Prim.Native.Nat.{ℕ, _+_, _<_, _≤_}
 use lib.Dec.{eqb}
-use Rattle.sending.specs.Sending.{hopOf}
 use Rattle.links.specs.Links.{isIdle}
 use Rattle.soundness.specs.LinkDid.{isJoin}
 use Rattle.soundness.specs.ProbeCycle.{Waiting, inCycle}
 use Rattle.soundness.specs.Sound.{Held}
-use Rattle.table.specs.Words.{bitOf, packetsOf, placeOf, sourceOf}
+use Rattle.table.specs.Words.{bitOf, hopOf, packetsOf, placeOf, sourceOf}
 use Rattle.tasks.specs.declared.Kind.{Kind}
 use Rattle.tasks.specs.declared.Packet.{Packet}
 use Rattle.tasks.specs.Packets.{goesDown}

@@ -8,13 +8,12 @@ use mathlib.Core.Logic.{_⊎_}
 use mathlib.Core.Path.{_≡_}
 use Prim.Native.Nat.{ℕ, _+_, _-_, _<_, _≤_}
 use lib.ListN.{length}
-use Rattle.sending.specs.Sending.{hopOf}
 use Rattle.links.specs.Links.{B, isFine}
 use Rattle.soundness.specs.LinkDid.{isJoin}
 use Rattle.soundness.specs.Sound.{Held, Sound}
 use Rattle.ranges.specs.Ranges.{countFits, entryFits, linkFits, packetFits, sourceFits, standingFits}
 use Rattle.table.specs.Values.{PacketWithin}
-use Rattle.table.specs.Words.{countOf, hopsOf, linkOf, packetsOf, placeOf, sourceOf, stopOf}
+use Rattle.table.specs.Words.{countOf, hopOf, hopsOf, linkOf, packetsOf, placeOf, sourceOf, stopOf}
 use Rattle.tasks.specs.declared.Packet.{Packet}
 use Rattle.tasks.specs.Packets.{goesDown, isLeave}
 

@@ -6,7 +6,7 @@ use Prim.Native.Nat.{ℕ, _+_, _-_}
 use lib.Dec.{eqb}
 use Rattle.records.specs.Format.{all}
 use Rattle.sessions.specs.Set.{members, put, walk}
-use Rattle.table.specs.Words.{appended, hopFrom, packetOf, pathOf}
+use Rattle.table.specs.Words.{appended, hopOf, packetOf}
 use Rattle.tasks.specs.declared.Burst.{Burst}
 use Rattle.tasks.specs.declared.Burst.the-variants as burst
 use Rattle.tasks.specs.declared.Kind.{Kind}
@@ -14,11 +14,7 @@ use Rattle.tasks.specs.declared.Kind.the-variants as kind
 use Rattle.tasks.specs.declared.Onward.{Onward}
 use Rattle.tasks.specs.declared.Onward.the-variants as onward
 use Rattle.tasks.specs.declared.Packet.{Packet}
-use Rattle.tasks.specs.Packets.{goesDown}
-
--- 01: "Hop 0 is the source, hops 1 to n the links of the path"; 0 too where link e is not on the path of s
-abbrev pub hopOf : List ℕ → ℕ → ℕ → ℕ
-hopOf w s e = hopFrom 1 (pathOf w s) e
+use Rattle.tasks.specs.Packets.{goesDown, sameWay}
 
 -- the hop after h, downstream or upstream
 abbrev pub nextHop : Bool → ℕ → ℕ
@@ -50,7 +46,7 @@ unfoldable pub sendAllOf : List ℕ → ℕ → Burst → ℕ → List ℕ
 sendAllOf w e b to = walk (sendUpOf e b) w (members to)
 
 -- the sessions of a set whose path has link e: to no other can link e send. In a table that passes the test of refusal 14 all of them have it
--- (`burst-on-path`); an entry off its session's path can come about only from a handed table with a Join and no Leave behind it of a session that has
+-- (`passes-burst-on-path`); an entry off its session's path can come about only from a handed table with a Join and no Leave behind it of a session that has
 -- left
 abbrev pub addOnPath : List ℕ → ℕ → ℕ → ℕ → ℕ
 addOnPath w e a r = cond (eqb (hopOf w r e) 0) a (put r a)
@@ -59,9 +55,6 @@ unfoldable pub onPathOf : List ℕ → ℕ → ℕ → ℕ
 onPathOf w e to = walk (addOnPath w e) 0 (members to)
 
 -- 01: "it is out of turn if an earlier packet has the same session, hop and direction"
-abbrev pub sameWay : Bool → Bool → Bool
-sameWay a b = cond a b (not b)
-
 abbrev pub sameLane : Packet → Packet → Bool
 sameLane p q = eqb (p .session) (q .session) && (eqb (p .hop) (q .hop) && sameWay (p .down) (q .down))
 

@@ -5,7 +5,7 @@ use tasks::Onward;
 use tasks::Packet;
 ghost use mathlib.Core.Path.{_≡_};
 ghost use Prim.Native.Nat.{ℕ, _≤_, _<_};
-ghost use Rattle.sending.specs.Sending.{addOnPath, burstKind, inTurnOf, nextHop, noneOf, onPathOf, oneIf, sameLane, sameWay, sendAllOf, sendOnOf, sendUpOf, sentFrom};
+ghost use Rattle.sending.specs.Sending.{addOnPath, burstKind, inTurnOf, nextHop, noneOf, onPathOf, oneIf, sameLane, sendAllOf, sendOnOf, sendUpOf, sentFrom};
 
 // The hop after h.
 fn next_hop(down: bool, h: u32) -> u32
@@ -119,13 +119,6 @@ pub fn on_path(t: &[u64; 9153], e: usize, to: u32) -> u32
     found
 }
 
-// Whether two packets go the same way.
-fn same_way(a: bool, b: bool) -> bool
-    ensures { λ r. ⌜ r ≡ sameWay a b ⌝ }
-{
-    if a { b } else { !b }
-}
-
 // Whether two packets have the same session, hop and direction.
 fn same_lane(p: Packet, q: Packet) -> bool
     ensures { λ r. ⌜ r ≡ sameLane p q ⌝ }
@@ -136,7 +129,7 @@ fn same_lane(p: Packet, q: Packet) -> bool
     if p.hop != q.hop {
         return false;
     }
-    same_way(p.down, q.down)
+    tasks::same_way(p.down, q.down)
 }
 
 // Whether no earlier packet has the session, hop and direction of the one at place i.

@@ -9,7 +9,7 @@ use borrow.Author.Tests.{eq-eqb, eqb-false, eqb-true, ne-eqb}
 use lib.Dec.{eqb}
 use lib.ListN.{getD, length}
 use Rattle.fractions.proofs.Cases.{cases}
-use Rattle.table.specs.Words.{hopFrom, hopsOf, pathOf, stopOf}
+use Rattle.table.specs.Words.{hopFrom, hopOf, hopsOf, pathOf, stopOf}
 use Rattle.table.proofs.InRange.{hops-most, path-length, path-stop}
 
 -- ON A LIST -----------------------------------------------------------------------------------------------------------
@@ -105,16 +105,16 @@ hop-from-first h (x ∷ l) (suc i) z m n =
 
 -- ON A PATH -----------------------------------------------------------------------------------------------------------
 
-pub hop-of-most : (w : List ℕ) (s e : ℕ) → hopFrom 1 (pathOf w s) e ≤ 8
+pub hop-of-most : (w : List ℕ) (s e : ℕ) → hopOf w s e ≤ 8
 hop-of-most w s e = omega (arith, hop-from-below 1 (pathOf w s) e (omega arith), path-length w s, hops-most w s)
 
-pub hop-of-stop : (w : List ℕ) (s e i : ℕ) → hopFrom 1 (pathOf w s) e ≡ suc i → (i < hopsOf w s) × (stopOf w s i ≡ e)
+pub hop-of-stop : (w : List ℕ) (s e i : ℕ) → hopOf w s e ≡ suc i → (i < hopsOf w s) × (stopOf w s i ≡ e)
 hop-of-stop w s e i q =
     let a : suc i ≡ 1 + i = omega arith in
     let p = hop-from-at 1 (pathOf w s) e i 0 (omega arith) (q ∙ a) in
     let l : i < hopsOf w s = omega (arith, p .0, path-length w s) in
     (l, sym (path-stop w s i 0 l) ∙ p .1)
 
-pub hop-of-none : (w : List ℕ) (s e i : ℕ) → hopFrom 1 (pathOf w s) e ≡ 0 → i < hopsOf w s → stopOf w s i ≡ e → ⊥
+pub hop-of-none : (w : List ℕ) (s e i : ℕ) → hopOf w s e ≡ 0 → i < hopsOf w s → stopOf w s i ≡ e → ⊥
 hop-of-none w s e i q l r =
     hop-from-none 1 (pathOf w s) e i 0 (omega arith) q (omega (arith, path-length w s)) (path-stop w s i 0 l ∙ r)

@@ -11,8 +11,9 @@ use Rattle.fractions.specs.Fraction.{Sized, maxRate}
 use Rattle.fractions.proofs.Cases.{cases}
 use Rattle.fractions.proofs.Ranges.{kept-sized}
 use Rattle.links.specs.declared.Entry.{Entry}
-use Rattle.table.specs.Values.{EtaInRange, KindInRange, LinkInRange, PacketInRange, PlaceInRange, RowInRange, SourceInRange, ToldInRange}
-use Rattle.table.specs.Words.{countOf, entryOf, etaOf, fieldOf, hopsOf, kindOf, linkOf, noEntry, packetFrom, packetOf, pathOf, placeOf, rowOf, sourceFrom, sourceOf, stopOf, stopsFrom, toldOf}
+use Rattle.table.specs.Values.{EtaInRange, KindInRange, LinkInRange, PacketInRange, PlaceInRange, SourceInRange, ToldInRange}
+use Rattle.table.specs.Words.{countOf, entryOf, etaOf, fieldOf, hopsOf, kindOf, linkOf, packetFrom, packetOf, pathOf, placeOf, rowOf, sourceFrom, sourceOf, stopOf, stopsFrom, toldOf}
+use Rattle.links.specs.Links.{Rates, noEntry}
 use Rattle.table.proofs.Loops.{getD-entries, length-entries}
 
 -- FIELDS --------------------------------------------------------------------------------------------------------------
@@ -64,8 +65,8 @@ row-entry w e s z h = getD-entries 32 s w (192 + e * 96) z h
 pub row-rates : (w : List ℕ) (e s : ℕ) → s < 32 → Sized maxRate (getD (rowOf w e) s noEntry .rate)
 row-rates w e s h = rw (row-entry w e s noEntry h) (entry-rate w (192 + e * 96 + s * 3))
 
-pub row-in-range : (w : List ℕ) (e : ℕ) → RowInRange (rowOf w e)
-row-in-range w e = record { all = row-length w e; rate = row-rates w e }
+pub row-in-range : (w : List ℕ) (e : ℕ) → Rates (rowOf w e)
+row-in-range w e = record { many = row-length w e; sized = row-rates w e }
 
 pub place-in-range : (w : List ℕ) (e : ℕ) → PlaceInRange (placeOf w e)
 place-in-range w e = record { link = link-in-range w e; entries = row-in-range w e }

@@ -10,7 +10,9 @@ use borrow.Author.Tests.{eq-eqb, ne-eqb}
 use lib.ListN.{drop, drop-of-length-le, getD, length, set}
 use lib.Seq.{drop-cons, paste, paste-suc, take-all}
 use Rattle.links.specs.declared.Entry.{Entry}
-use Rattle.table.specs.Words.{entriesFrom, entryOf, hopFrom, movedUp, noEntry, putEntry, stopOf, stopsFrom, storeEntries}
+use Rattle.table.specs.Words.{entriesFrom, entryOf, hopFrom, movedUp, putEntry, stopOf, stopsFrom, storeEntries}
+use Rattle.links.specs.Links.{noEntry}
+use Rattle.table.specs.Ranges.{stopsFit}
 
 -- A ROW READ ----------------------------------------------------------------------------------------------------------
 

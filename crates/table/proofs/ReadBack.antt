@@ -17,8 +17,9 @@ use Rattle.links.specs.declared.Link.{Link}
 use Rattle.tasks.specs.declared.Packet.{Packet}
 use Rattle.links.specs.declared.Place.{Place}
 use Rattle.ends.specs.declared.Source.{Source}
-use Rattle.table.specs.Values.{KindInRange, LinkInRange, PacketInRange, PlaceInRange, RowInRange, SourceInRange}
-use Rattle.table.specs.Words.{bitOf, blockAt, countOf, entriesFrom, entryOf, headWords, hopsOf, kindOf, linkOf, muCode, noEntry, packetFrom, packetOf, packetWords, pathOf, placeOf, putBlock, putCount, putEntry, putHops, putLink, putPacket, putPath, putPlace, putRates, putRow, putSource, rowOf, sourceFrom, sourceOf, stopOf, storeEntries, toldRate, wordsFor}
+use Rattle.table.specs.Values.{KindInRange, LinkInRange, PacketInRange, PlaceInRange, SourceInRange}
+use Rattle.table.specs.Words.{bitOf, blockAt, countOf, entriesFrom, entryOf, headWords, hopsOf, kindOf, linkOf, muCode, packetFrom, packetOf, packetWords, pathOf, placeOf, putBlock, putCount, putEntry, putHops, putLink, putPacket, putPath, putPlace, putRates, putRow, putSource, rowOf, sourceFrom, sourceOf, stopOf, storeEntries, toldRate, wordsFor}
+use Rattle.links.specs.Links.{Rates, noEntry}
 use Rattle.table.proofs.Codes.{bit-back, eta-back, mu-back, tau-back, told-back}
 use Rattle.table.proofs.InRange.{field-same, path-length, path-stop}
 use Rattle.table.proofs.Places.{entries-below, entry-agree, hops-agree, length-put-entry, length-put-hops, length-put-link, length-put-path, link-agree, put-hops-off, put-path-off, put-rates-off, put-row-off, stop-agree}
@@ -68,12 +69,12 @@ entries-back (x ∷ l) w a h g =
 
 pub row-back : (w : List ℕ) (e : ℕ) (es : List Entry)
     → 192 + e * 96 + 96 ≤ length w
-    → RowInRange es
+    → Rates es
     → rowOf (putRow w e es) e ≡ es
 unfolding rowOf putRow
 row-back w e es h g =
-    let n : length es ≡ 32 = g .all in
-    rw (← n) (entries-back es w (192 + e * 96) (omega arith) (λ s m. g .rate s (omega arith)))
+    let n : length es ≡ 32 = g .many in
+    rw (← n) (entries-back es w (192 + e * 96) (omega arith) (λ s m. g .sized s (omega arith)))
 
 pub place-back : (w : List ℕ) (e : ℕ) (p : Place)
     → length w ≡ 9153
@@ -85,7 +86,7 @@ place-back w e p l h g =
     let v : List ℕ = putLink w e (p .link) in
     let lv : length v ≡ 9153 = length-put-link w e (p .link) ∙ l in
     let a : linkOf (putRow v e (p .entries)) e ≡ p .link =
-    link-agree (putRow v e (p .entries)) v e (λ i a b. put-row-off v e (p .entries) i (g .entries .all) (inl (omega arith)))
+    link-agree (putRow v e (p .entries)) v e (λ i a b. put-row-off v e (p .entries) i (g .entries .many) (inl (omega arith)))
     ∙ link-back w e (p .link) (omega arith) (g .link) in
     let b : rowOf (putRow v e (p .entries)) e ≡ p .entries = row-back v e (p .entries) (omega arith) (g .entries) in
     rw (a, b)

@@ -9,4 +9,4 @@ use Rattle.table.proofs.InRange.{place-in-range}
 pub place-workable : (w : List ℕ) (e : ℕ) → Workable (placeOf w e)
 place-workable w e =
     let o = place-in-range w e in
-    record { capacity = o .link .capacity; rates = record { many = o .entries .all; sized = o .entries .rate } }
+    record { capacity = o .link .capacity; rates = o .entries }

@@ -1,11 +1,7 @@
 -- Values within their ranges. What is read from a table is so, whatever its words say; what is so is read back as it was written.
 -- Assumes nothing: definitions.
-use mathlib.Core.List.{List}
-use mathlib.Core.Path.{_≡_}
-use Prim.Native.Nat.{ℕ, _≤_, _<_}
-use lib.ListN.{getD, length}
+use Prim.Native.Nat.{_≤_, _<_}
 use Rattle.fractions.specs.Fraction.{Sized, Within, maxRate}
-use Rattle.links.specs.declared.Entry.{Entry}
 use Rattle.tasks.specs.declared.Eta.{Eta}
 use Rattle.tasks.specs.declared.Eta.the-variants as eta
 use Rattle.tasks.specs.declared.Kind.{Kind}
@@ -13,24 +9,19 @@ use Rattle.tasks.specs.declared.Kind.the-variants as kind
 use Rattle.links.specs.declared.Link.{Link}
 use Rattle.tasks.specs.declared.Packet.{Packet}
 use Rattle.links.specs.declared.Place.{Place}
+use Rattle.links.specs.Links.{Rates}
 use Rattle.ends.specs.declared.Source.{Source}
 use Rattle.ends.specs.declared.Told.{Told}
 use Rattle.ends.specs.declared.Told.the-variants as told
-use Rattle.table.specs.Words.{noEntry}
 
 pub record LinkInRange (l : Link) : Type 0 where
   pub capacity : l .capacity ≤ 1000000
   pub r : l .r < 4294967296
   pub f : l .f < 4294967296
 
--- the entries of a link: 32 of them, with rates within the limits
-pub record RowInRange (es : List Entry) : Type 0 where
-  pub all : length es ≡ 32
-  pub rate : (s : ℕ) → s < 32 → Sized maxRate (getD es s noEntry .rate)
-
 pub record PlaceInRange (p : Place) : Type 0 where
   pub link : LinkInRange (p .link)
-  pub entries : RowInRange (p .entries)
+  pub entries : Rates (p .entries)
 
 abbrev pub ToldInRange : Told → Type 0
 ToldInRange told.Never = Unit {0}

@@ -117,6 +117,10 @@ linkOf w e = record {
   f = fieldOf 4294967295 (getD w (e * 3 + 2) 0);
 }
 
+-- link e is declared: its capacity is 1 or more (01, refusal 5)
+abbrev pub declaredIn : List ℕ → ℕ → Bool
+declaredIn w e = ltb 0 (linkOf w e .capacity)
+
 unfoldable pub putLink : List ℕ → ℕ → Link → List ℕ
 putLink w e l = store w (e * 3) (l .capacity ∷ l .r ∷ l .f ∷ [])
 
@@ -134,10 +138,6 @@ entriesFrom (suc k) w a = entryOf w a ∷ entriesFrom k w (a + 3)
 unfoldable pub storeEntries : List ℕ → ℕ → List Entry → List ℕ
 storeEntries w a [] = w
 storeEntries w a (x ∷ l) = storeEntries (putEntry w a x) (a + 3) l
-
--- what an index past the end reads
-abbrev pub noEntry : Entry
-noEntry = record { mu = mu.Idle; rate = frac 0 0 }
 
 -- the 32 entries of link e, by session
 unfoldable pub rowOf : List ℕ → ℕ → List Entry
@@ -219,6 +219,10 @@ putPath w s bytes at = putBlock w (6336 + s * 24 + 16) (blockAt bytes at)
 unfoldable pub hopFrom : ℕ → List ℕ → ℕ → ℕ
 hopFrom h [] e = 0
 hopFrom h (x ∷ l) e = cond (eqb x e) h (hopFrom (suc h) l e)
+
+-- 01: "Hop 0 is the source, hops 1 to n the links of the path"; 0 too where link e is not on the path of session s
+abbrev pub hopOf : List ℕ → ℕ → ℕ → ℕ
+hopOf w s e = hopFrom 1 (pathOf w s) e
 
 -- PACKETS, IN ORDER OF SENDING ----------------------------------------------------------------------------------------
 

@@ -2,7 +2,8 @@
 ghost use mathlib.Core.Path.{_≡_};
 ghost use Prim.Native.Nat.{_+_, _≤_, _<_};
 ghost use lib.ListN.{length, replicate};
-ghost use Rattle.table.specs.Words.{fieldOf, bitOf, blockAt, putBlock, muOf, muCode, tauOf, tauCode, etaOf, etaCode, toldOf, toldCode, toldRate, linkOf, putLink, entryOf, putEntry, rowOf, putRow, placeOf, putPlace, sourceFrom, sourceOf, headWords, putRates, putSource, hopsOf, putHops, stopOf, pathOf, putPath, hopFrom, kindOf, packetFrom, packetWords, packetOf, putPacket, countOf, putCount, appended, removed, emptyWords};
+ghost use Rattle.table.specs.Words.{fieldOf, bitOf, blockAt, putBlock, muOf, muCode, tauOf, tauCode, etaOf, etaCode, toldOf, toldCode, toldRate, linkOf, putLink, entryOf, putEntry, rowOf, putRow, placeOf, putPlace, sourceFrom, sourceOf, headWords, putRates, putSource, hopsOf, putHops, stopOf, putPath, hopOf, kindOf, packetFrom, packetWords, packetOf, putPacket, countOf, putCount, appended, removed, emptyWords};
+ghost use Rattle.table.specs.Ranges.{countFits, linkFits, entryFits, standingFits, flagsFit, numbersFit, ratesFit, stopsFit, pathFits, sourceFits, ratedFits, kindFits, wordsFit, packetFits};
 use ends::Source;
 use ends::Told;
 use fractions::Rate;
@@ -391,7 +392,7 @@ pub fn put_path(t: &mut [u64; 9153], s: usize, input: &[u8], at: usize)
 // The hop of link e on the path of s, counted from 1, or 0 where it is not on it.
 pub fn hop_of(t: &[u64; 9153], s: usize, e: usize) -> u32
     requires { ⌜ s < 32 ⌝ }
-    ensures { λ r. ⌜ r ≡ hopFrom 1 (pathOf (now (t .entry)) s) e ⌝ }
+    ensures { λ r. ⌜ r ≡ hopOf (now (t .entry)) s e ⌝ }
 {
     let n = hops_at(t, s);
     let mut hop = 1;

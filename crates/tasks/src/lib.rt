@@ -12,7 +12,7 @@ ghost use Rattle.fractions.specs.Fraction.{Sized, maxRate, zeroOf};
 ghost use Rattle.tasks.specs.declared.Kind.the-variants as kind;
 ghost use Rattle.links.specs.declared.Mu.the-variants as mu;
 ghost use Rattle.links.specs.Links.{B, BoundSized, Rates, Workable, awaitsResponse, belowB, entry, equalsB, holds, inR, isFine, isIdle, muAt, rateAt};
-ghost use Rattle.tasks.specs.Packets.{goesDown, isLeave};
+ghost use Rattle.tasks.specs.Packets.{goesDown, isLeave, sameWay};
 ghost use Rattle.tasks.specs.Figure2.{KindSized, acceptedOf, agreedOf, answeredOf, bottleneckOf, freedOf, isLink, joinOf, leaveOf, linkStepOf, loweredOf, namedOf, probeOf, quiet, responseOf, restrictedOf, setBottleneckOf, stayingOf, updateOf, updating, withoutOf};
 
 // What a Response asks for.
@@ -82,6 +82,13 @@ pub fn goes_down(kind: Kind) -> bool
         Kind::SetBottleneck(beta) => true,
         Kind::Leave => true,
     }
+}
+
+// Whether both go downstream, or both upstream.
+pub fn same_way(a: bool, b: bool) -> bool
+    ensures { λ r. ⌜ r ≡ sameWay a b ⌝ }
+{
+    if a { b } else { !b }
 }
 
 // Whether a packet is a Leave.

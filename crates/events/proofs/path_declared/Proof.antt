@@ -12,7 +12,8 @@ use lib.Dec.{eqb, ltb}
 use mathlib.Core.Bool.{_&&_}
 use lib.ListN.{getD}
 use Rattle.records.specs.Limits.{linkLimit}
-use Rattle.events.specs.Events.{declaredIn, pathDeclaredIn}
+use Rattle.events.specs.Events.{pathDeclaredIn}
+use Rattle.table.specs.Words.{declaredIn}
 use borrow.Author.Needs.{needs}
 use Rattle.events.proofs.path_declared.Statement.{statement}
 use Rattle.events.proofs.path_declared.Tie as tie

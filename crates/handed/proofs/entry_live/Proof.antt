@@ -25,8 +25,8 @@ returns-2 c =
     let d = sym (c .before .before .before .held-at .ensures) ∙ not-false _ (c .before .before .if1 .left) in
     rw (d, ← (c .before .source-at .ensures), c .if2 .taken)
 
-hop-at-requires : tie.Need-hop-at-requires
-hop-at-requires c κs = search needs
+hop-of-requires : tie.Need-hop-of-requires
+hop-of-requires c κs = search needs
 
 leave-to-come-requires : tie.Need-leave-to-come-requires
 leave-to-come-requires c κs = search needs
@@ -35,7 +35,7 @@ returns-3 : tie.Need-returns-3
 unfolding entryLive
 returns-3 c =
     let d = sym (c .before .before .before .before .before .held-at .ensures) ∙ not-false _ (c .before .before .before .before .if1 .left) in
-    rw (d, ← (c .before .before .before .source-at .ensures), c .before .before .if2 .left, ← (c .before .hop-at .ensures)) (c .leave-to-come .ensures)
+    rw (d, ← (c .before .before .before .source-at .ensures), c .before .before .if2 .left, ← (c .before .hop-of .ensures)) (c .leave-to-come .ensures)
 
 pub entry-live-spec : {M : Type 1} → statement M
 entry-live-spec =
@@ -45,6 +45,6 @@ entry-live-spec =
     returns
     source-at-requires
     returns-2
-    hop-at-requires
+    hop-of-requires
     leave-to-come-requires
     returns-3)

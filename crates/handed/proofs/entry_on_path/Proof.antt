@@ -16,14 +16,14 @@ returns c =
     let d = sym (c .before .held-at .ensures) ∙ not-true _ (c .if1 .taken) in
     rw d
 
-hop-at-requires : tie.Need-hop-at-requires
-hop-at-requires c κs = search needs
+hop-of-requires : tie.Need-hop-of-requires
+hop-of-requires c κs = search needs
 
 returns-2 : tie.Need-returns-2
 unfolding entryOnPath
 returns-2 c =
     let d = sym (c .before .before .held-at .ensures) ∙ not-false _ (c .before .if1 .left) in
-    rw (d, ← (c .hop-at .ensures))
+    rw (d, ← (c .hop-of .ensures))
 
 pub entry-on-path-spec : {M : Type 1} → statement M
-entry-on-path-spec = tie.close (tie.spec held-at-requires returns hop-at-requires returns-2)
+entry-on-path-spec = tie.close (tie.spec held-at-requires returns hop-of-requires returns-2)

@@ -1,6 +1,5 @@
 -- `handed::held_at` meets its contract: the first test that passes settles it.
 -- Assumes nothing.
-use Rattle.handed.specs.Handed.{heldAt}
 use borrow.Author.Needs.{needs}
 use Rattle.handed.proofs.held_at.Statement.{statement}
 use Rattle.handed.proofs.held_at.Tie as tie
@@ -21,11 +20,9 @@ has-requires-2 : tie.Need-has-requires-2
 has-requires-2 c κs = search needs
 
 returns : tie.Need-returns
-unfolding heldAt
 returns c = rw (← (c .before .before .link-at .ensures), ← (c .before .has .ensures), c .if1 .taken)
 
 returns-2 : tie.Need-returns-2
-unfolding heldAt
 returns-2 c = rw (← (c .before .before .before .link-at .ensures), ← (c .before .before .has .ensures), c .before .if1 .left) (c .has2 .ensures)
 
 pub held-at-spec : {M : Type 1} → statement M

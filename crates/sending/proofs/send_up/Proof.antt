@@ -3,7 +3,7 @@
 use mathlib.Core.Path.{_≡_, ap, subst, sym, _∙_}
 use native.Mathlib.Omega.{arith}
 use denote.Ref.{now}
-use Rattle.sending.specs.Sending.{hopOf, sendUpOf}
+use Rattle.sending.specs.Sending.{sendUpOf}
 use Prim.Native.Nat.{_≤_}
 use Rattle.table.proofs.Hops.{hop-of-most}
 use borrow.Author.Needs.{needs}
