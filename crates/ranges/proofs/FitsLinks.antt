@@ -15,7 +15,8 @@ use Rattle.links.specs.declared.Link.{Link}
 use Rattle.links.specs.declared.Place.{Place}
 use Rattle.ranges.specs.Ranges.{entryFits, linkFits}
 use Rattle.table.specs.Values.{LinkInRange}
-use Rattle.table.specs.Words.{muCode, putEntry, putLink, putPlace, putRow, storeEntries}
+use Rattle.table.specs.Words.{putEntry, putLink, putPlace, putRow, storeEntries}
+use Rattle.table.specs.Codes.{muCode}
 use Rattle.links.specs.Links.{noEntry}
 use Rattle.table.proofs.Codes.{mu-most}
 use Rattle.table.proofs.Places.{entries-below, length-put-entry, length-put-link, put-row-off}

@@ -19,7 +19,8 @@ use Rattle.ends.specs.declared.Told.{Told}
 use Rattle.ends.specs.declared.Told.the-variants as told
 use Rattle.ranges.specs.Ranges.{countFits, entryFits, flagsFit, kindFits, linkFits, numbersFit, packetFits, pathFits, ratedFits, ratesFit, sourceFits, standingFits, wordsFit}
 use Rattle.table.specs.Values.{EtaInRange, KindInRange, KindWithin, PacketInRange, PacketWithin, SourceInRange, SourceWithin, ToldInRange, ToldWithin}
-use Rattle.table.specs.Words.{blockAt, countOf, entryOf, etaOf, hopsOf, kindOf, linkOf, packetFrom, packetOf, rowOf, sourceFrom, sourceOf, toldOf}
+use Rattle.table.specs.Words.{blockAt, countOf, entryOf, hopsOf, kindOf, linkOf, packetFrom, packetOf, rowOf, sourceFrom, sourceOf}
+use Rattle.table.specs.Codes.{etaOf, toldOf}
 use Rattle.links.specs.Links.{noEntry}
 use Rattle.table.proofs.InRange.{eta-in-range, field-same, packet-in-range, row-entry, source-in-range}
 

@@ -17,7 +17,8 @@ use Rattle.tasks.specs.declared.Kind.the-variants as kind
 use Rattle.tasks.specs.declared.Packet.{Packet}
 use Rattle.ranges.specs.Ranges.{countFits, kindFits, packetFits, ratedFits, wordsFit}
 use Rattle.table.specs.Values.{KindWithin, PacketWithin}
-use Rattle.table.specs.Words.{appended, bitOf, blockAt, countOf, movedUp, packetWords, putCount, putPacket, removed, wordsFor}
+use Rattle.table.specs.Words.{appended, blockAt, countOf, movedUp, packetWords, putCount, putPacket, removed, wordsFor}
+use Rattle.table.specs.Codes.{bitOf}
 use Rattle.table.proofs.Codes.{bit-most, eta-most, tau-most}
 use Rattle.table.proofs.InRange.{count-most}
 use Rattle.table.proofs.Places.{length-put-packet, put-count-off, put-packet-off}

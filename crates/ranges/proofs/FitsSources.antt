@@ -18,7 +18,8 @@ use Rattle.ends.specs.declared.Told.{Told}
 use Rattle.ends.specs.declared.Told.the-variants as told
 use Rattle.ranges.specs.Ranges.{flagsFit, numbersFit, pathFits, ratesFit, sourceFits, standingFits, stopsFit}
 use Rattle.table.specs.Values.{SourceWithin, ToldWithin}
-use Rattle.table.specs.Words.{bitOf, blockAt, headWords, putBlock, putHops, putPath, putRates, putSource, toldCode, toldRate}
+use Rattle.table.specs.Words.{blockAt, headWords, putBlock, putHops, putPath, putRates, putSource}
+use Rattle.table.specs.Codes.{bitOf, toldCode, toldRate}
 use Rattle.table.proofs.Codes.{bit-most, mu-most, told-most}
 use Rattle.table.proofs.Places.{length-put-hops, length-put-path, put-hops-off, put-path-off, put-rates-off, put-source-off}
 use Rattle.table.proofs.ReadBack.{rates-back}

@@ -8,7 +8,7 @@ use native.Mathlib.Omega.{arith}
 use borrow.Author.Tests.{eq-eqb, ne-eqb}
 use lib.Dec.{eqb}
 use Rattle.soundness.specs.ProbeCycle.{inCycle, sendsCycle}
-use Rattle.table.specs.Words.{bitOf}
+use Rattle.table.specs.Codes.{bitOf}
 use Rattle.tasks.specs.declared.Kind.{Kind}
 use Rattle.tasks.specs.declared.Onward.{Onward}
 use Rattle.tasks.specs.declared.Onward.the-variants as onward

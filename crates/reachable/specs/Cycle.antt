@@ -10,7 +10,8 @@ use Rattle.links.specs.Links.{isIdle}
 use Rattle.soundness.specs.LinkDid.{isJoin}
 use Rattle.soundness.specs.ProbeCycle.{Waiting, inCycle}
 use Rattle.soundness.specs.Sound.{Held}
-use Rattle.table.specs.Words.{bitOf, hopOf, packetsOf, placeOf, sourceOf}
+use Rattle.table.specs.Words.{hopOf, packetsOf, placeOf, sourceOf}
+use Rattle.table.specs.Codes.{bitOf}
 use Rattle.tasks.specs.declared.Kind.{Kind}
 use Rattle.tasks.specs.declared.Packet.{Packet}
 use Rattle.tasks.specs.Packets.{goesDown}

@@ -15,7 +15,7 @@ use Rattle.tasks.specs.declared.Tau.the-variants as tau
 use Rattle.ends.specs.declared.Told.{Told}
 use Rattle.ends.specs.declared.Told.the-variants as told
 use Rattle.table.specs.Values.{EtaInRange, ToldInRange}
-use Rattle.table.specs.Words.{bitOf, etaCode, etaOf, muCode, muOf, tauCode, tauOf, toldCode, toldOf, toldRate}
+use Rattle.table.specs.Codes.{bitOf, etaCode, etaOf, muCode, muOf, tauCode, tauOf, toldCode, toldOf, toldRate}
 use Rattle.table.proofs.InRange.{field-same}
 
 pub mu-back : (m : Mu) → muOf (muCode m) ≡ m

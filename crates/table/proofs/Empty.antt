@@ -9,7 +9,8 @@ use Rattle.fractions.specs.Fraction.{keptOf, sizedOf, zeroOf}
 use Rattle.links.specs.declared.Entry.{Entry}
 use Rattle.links.specs.declared.Mu.the-variants as mu
 use Rattle.ends.specs.declared.Told.the-variants as told
-use Rattle.table.specs.Words.{blockAt, countOf, emptyWords, entriesFrom, entryOf, fieldOf, hopsOf, linkOf, muOf, packetsFrom, packetsOf, pathOf, rowOf, sourceFrom, sourceOf, stopsFrom, toldOf}
+use Rattle.table.specs.Words.{blockAt, countOf, emptyWords, entriesFrom, entryOf, hopsOf, linkOf, packetsFrom, packetsOf, pathOf, rowOf, sourceFrom, sourceOf, stopsFrom}
+use Rattle.table.specs.Codes.{fieldOf, muOf, toldOf}
 
 zero-word : (n i : ℕ) → _≡_ {A = ℕ} (getD (replicate n 0) i 0) 0
 zero-word zero i = refl

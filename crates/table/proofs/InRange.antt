@@ -12,7 +12,8 @@ use Rattle.fractions.proofs.Cases.{cases}
 use Rattle.fractions.proofs.Ranges.{kept-sized}
 use Rattle.links.specs.declared.Entry.{Entry}
 use Rattle.table.specs.Values.{EtaInRange, KindInRange, LinkInRange, PacketInRange, PlaceInRange, SourceInRange, ToldInRange}
-use Rattle.table.specs.Words.{countOf, entryOf, etaOf, fieldOf, hopsOf, kindOf, linkOf, packetFrom, packetOf, pathOf, placeOf, rowOf, sourceFrom, sourceOf, stopOf, stopsFrom, toldOf}
+use Rattle.table.specs.Words.{countOf, entryOf, hopsOf, kindOf, linkOf, packetFrom, packetOf, pathOf, placeOf, rowOf, sourceFrom, sourceOf, stopOf, stopsFrom}
+use Rattle.table.specs.Codes.{etaOf, fieldOf, toldOf}
 use Rattle.links.specs.Links.{Rates, noEntry}
 use Rattle.table.proofs.Loops.{getD-entries, length-entries}
 

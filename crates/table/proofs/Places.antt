@@ -17,7 +17,8 @@ use Rattle.links.specs.declared.Link.{Link}
 use Rattle.tasks.specs.declared.Packet.{Packet}
 use Rattle.links.specs.declared.Place.{Place}
 use Rattle.ends.specs.declared.Source.{Source}
-use Rattle.table.specs.Words.{appended, blockAt, countOf, entriesFrom, entryOf, headWords, hopsOf, linkOf, movedUp, muCode, packetOf, packetWords, packetsFrom, packetsOf, pathOf, putBlock, putCount, putEntry, putHops, putLink, putPacket, putPath, putPlace, putRates, putRow, putSource, removed, rowOf, sourceFrom, sourceOf, stopOf, stopsFrom, storeEntries, toldRate}
+use Rattle.table.specs.Words.{appended, blockAt, countOf, entriesFrom, entryOf, headWords, hopsOf, linkOf, movedUp, packetOf, packetWords, packetsFrom, packetsOf, pathOf, putBlock, putCount, putEntry, putHops, putLink, putPacket, putPath, putPlace, putRates, putRow, putSource, removed, rowOf, sourceFrom, sourceOf, stopOf, stopsFrom, storeEntries}
+use Rattle.table.specs.Codes.{muCode, toldRate}
 use Rattle.table.proofs.InRange.{count-most, hops-most}
 use Rattle.table.proofs.Store.{Agree, Off, block-agree, length-moved, length-put-block, length-store, moved-above, moved-below, put-block-off, store-off}
 

@@ -18,7 +18,8 @@ use Rattle.tasks.specs.declared.Packet.{Packet}
 use Rattle.links.specs.declared.Place.{Place}
 use Rattle.ends.specs.declared.Source.{Source}
 use Rattle.table.specs.Values.{KindInRange, LinkInRange, PacketInRange, PlaceInRange, SourceInRange}
-use Rattle.table.specs.Words.{bitOf, blockAt, countOf, entriesFrom, entryOf, headWords, hopsOf, kindOf, linkOf, muCode, packetFrom, packetOf, packetWords, pathOf, placeOf, putBlock, putCount, putEntry, putHops, putLink, putPacket, putPath, putPlace, putRates, putRow, putSource, rowOf, sourceFrom, sourceOf, stopOf, storeEntries, toldRate, wordsFor}
+use Rattle.table.specs.Words.{blockAt, countOf, entriesFrom, entryOf, headWords, hopsOf, kindOf, linkOf, packetFrom, packetOf, packetWords, pathOf, placeOf, putBlock, putCount, putEntry, putHops, putLink, putPacket, putPath, putPlace, putRates, putRow, putSource, rowOf, sourceFrom, sourceOf, stopOf, storeEntries, wordsFor}
+use Rattle.table.specs.Codes.{bitOf, muCode, toldRate}
 use Rattle.links.specs.Links.{Rates, noEntry}
 use Rattle.table.proofs.Codes.{bit-back, eta-back, mu-back, tau-back, told-back}
 use Rattle.table.proofs.InRange.{field-same, path-length, path-stop}

@@ -5,30 +5,23 @@
 --          of the rate told, hops, and three that are not used; the 8 links of the path
 --   7104   256 packets of 8 words: session, hop, down, kind, numerator, denominator, name, and tau of a Response or beta of a SetBottleneck
 --   9152   how many packets are in flight
--- Reading is total: a word outside its field's range reads as 0, and two words that are no rate within the limits as 0/1.
+-- What one word says is in specs/Codes.antt.
 -- Assumes nothing: definitions.
-use mathlib.Core.Bool.{Bool, cond, false, true}
+use mathlib.Core.Bool.{Bool, cond}
 use mathlib.Core.List.{List, [], _∷_}
 use Prim.Native.Nat.{ℕ, zero, suc, _+_, _-_, _*_}
-use lib.Dec.{eqb, leb, ltb}
+use lib.Dec.{eqb, ltb}
 use lib.ListN.{getD, replicate, set}
-use Rattle.fractions.specs.Fraction.{frac, keptOf}
+use Rattle.fractions.specs.Fraction.{keptOf}
 use Rattle.fractions.specs.declared.Rate.{Rate}
 use Rattle.links.specs.declared.Entry.{Entry}
-use Rattle.tasks.specs.declared.Eta.{Eta}
-use Rattle.tasks.specs.declared.Eta.the-variants as eta
 use Rattle.tasks.specs.declared.Kind.{Kind}
 use Rattle.tasks.specs.declared.Kind.the-variants as kind
 use Rattle.links.specs.declared.Link.{Link}
-use Rattle.links.specs.declared.Mu.{Mu}
-use Rattle.links.specs.declared.Mu.the-variants as mu
 use Rattle.tasks.specs.declared.Packet.{Packet}
 use Rattle.links.specs.declared.Place.{Place}
 use Rattle.ends.specs.declared.Source.{Source}
-use Rattle.tasks.specs.declared.Tau.{Tau}
-use Rattle.tasks.specs.declared.Tau.the-variants as tau
-use Rattle.ends.specs.declared.Told.{Told}
-use Rattle.ends.specs.declared.Told.the-variants as told
+use Rattle.table.specs.Codes.{bitOf, etaCode, etaOf, fieldOf, muCode, muOf, tauCode, tauOf, toldCode, toldOf, toldRate}
 
 -- RUNS OF WORDS -------------------------------------------------------------------------------------------------------
 
@@ -61,52 +54,6 @@ putBlock w a b =
     w
     a
     (getD b 0 0 ∷ getD b 1 0 ∷ getD b 2 0 ∷ getD b 3 0 ∷ getD b 4 0 ∷ getD b 5 0 ∷ getD b 6 0 ∷ getD b 7 0 ∷ [])
-
--- FIELDS AND CODES ----------------------------------------------------------------------------------------------------
-
--- a number of at most `most`, or 0 where the word is over it
-unfoldable pub fieldOf : ℕ → ℕ → ℕ
-fieldOf most n = cond (leb n most) n 0
-
-abbrev pub bitOf : Bool → ℕ
-bitOf true = 1
-bitOf false = 0
-
-unfoldable pub muOf : ℕ → Mu
-muOf n = cond (eqb n 1) mu.WaitingProbe (cond (eqb n 2) mu.WaitingResponse mu.Idle)
-
-abbrev pub muCode : Mu → ℕ
-muCode mu.Idle = 0
-muCode mu.WaitingProbe = 1
-muCode mu.WaitingResponse = 2
-
-unfoldable pub tauOf : ℕ → Tau
-tauOf n = cond (eqb n 1) tau.Update (cond (eqb n 2) tau.Bottleneck tau.Response)
-
-abbrev pub tauCode : Tau → ℕ
-tauCode tau.Response = 0
-tauCode tau.Update = 1
-tauCode tau.Bottleneck = 2
-
--- a link's number, or 64 for the source's own line
-unfoldable pub etaOf : ℕ → Eta
-etaOf n = cond (eqb n 64) eta.Own (eta.Link (fieldOf 63 n))
-
-abbrev pub etaCode : Eta → ℕ
-etaCode eta.Own = 64
-etaCode (eta.Link e) = e
-
-unfoldable pub toldOf : ℕ → ℕ → ℕ → Told
-toldOf code n d = cond (eqb code 1) (told.Rate (keptOf n d)) told.Never
-
-abbrev pub toldCode : Told → ℕ
-toldCode told.Never = 0
-toldCode (told.Rate x) = 1
-
--- the two words of the rate told: 0 and 0 where none was
-abbrev pub toldRate : Told → Rate
-toldRate told.Never = frac 0 0
-toldRate (told.Rate x) = x
 
 -- LINKS AND THEIR ENTRIES ---------------------------------------------------------------------------------------------
 

@@ -2,7 +2,7 @@
 -- Assumes nothing.
 use borrow.Author.Needs.{needs}
 use borrow.Author.Tests.{eq-eqb, ne-eqb}
-use Rattle.table.specs.Words.{etaOf}
+use Rattle.table.specs.Codes.{etaOf}
 use Rattle.table.proofs.eta_of.Statement.{statement}
 use Rattle.table.proofs.eta_of.Tie as tie
 

@@ -1,7 +1,7 @@
 -- `table::mu_of` meets its contract.
 -- Assumes nothing.
 use borrow.Author.Tests.{ne-eqb}
-use Rattle.table.specs.Words.{muOf}
+use Rattle.table.specs.Codes.{muOf}
 use Rattle.table.proofs.mu_of.Statement.{statement}
 use Rattle.table.proofs.mu_of.Tie as tie
 

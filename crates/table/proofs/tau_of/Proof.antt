@@ -1,7 +1,7 @@
 -- `table::tau_of` meets its contract.
 -- Assumes nothing.
 use borrow.Author.Tests.{ne-eqb}
-use Rattle.table.specs.Words.{tauOf}
+use Rattle.table.specs.Codes.{tauOf}
 use Rattle.table.proofs.tau_of.Statement.{statement}
 use Rattle.table.proofs.tau_of.Tie as tie
 

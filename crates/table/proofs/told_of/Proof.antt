@@ -2,7 +2,7 @@
 -- Assumes nothing.
 use borrow.Author.Needs.{needs}
 use borrow.Author.Tests.{eq-eqb, ne-eqb}
-use Rattle.table.specs.Words.{toldOf}
+use Rattle.table.specs.Codes.{toldOf}
 use Rattle.table.proofs.told_of.Statement.{statement}
 use Rattle.table.proofs.told_of.Tie as tie
 
