@@ -27,7 +27,7 @@ use Rattle.fractions.proofs.Cases.{order}
 use Rattle.declarations.specs.declared.Declared.{Declared}
 use Rattle.filling.specs.Lines.{problemOf}
 use Rattle.filling.specs.OneRound.{LinksAfter, Running, fixedIn, linkAfter}
-use Rattle.filling.specs.SmallestShare.{LinksFit, wordOf}
+use Rattle.filling.specs.SmallestShare.{LinksFit, partsLimit, wordOf}
 use Rattle.filling.specs.declared.Fill.{Fill}
 use Rattle.filling.specs.declared.Given.{Given}
 use Rattle.filling.specs.declared.Links.{Links}
@@ -178,7 +178,7 @@ module _ (d : Declared) (z : Fill) (run : Running d z) (l : Given) (small-word :
           busy = links-are .busy;
         }
       where
-        room : (e : ℕ) → e < 64 → (getD (z .links .at) e 0 ≤ 0) ⊎ (0 < getD (z .links .at) e 0) → getD (links' .room) e 0 ≤ 1099511627776
+        room : (e : ℕ) → e < 64 → (getD (z .links .at) e 0 ≤ 0) ⊎ (0 < getD (z .links .at) e 0) → getD (links' .room) e 0 ≤ partsLimit
         room e h (inr p) = omega (arith, next-room e h p, mul-le-mul den-after (run .ranges .capacity e h))
         room e h (inl n) =
             omega (

@@ -30,7 +30,7 @@ use Rattle.declarations.proofs.OwnLimit.{own-limit-le}
 use Rattle.declarations.specs.declared.Declared.{Declared}
 use Rattle.filling.specs.Lines.{problemOf}
 use Rattle.filling.specs.OneRound.{RatesAfter, Running, fixedIn, rateAfter}
-use Rattle.filling.specs.SmallestShare.{GivenAmong, limitsOf, roomOf, wordOf}
+use Rattle.filling.specs.SmallestShare.{GivenAmong, limitsOf, partsLimit, roomOf, wordOf}
 use Rattle.filling.specs.declared.Fill.{Fill}
 use Rattle.filling.specs.declared.Given.{Given}
 use Rattle.filling.proofs.OpenSessions.{T-not-one, T-one, few, is-member, left-is, member, open-T, open-is}
@@ -76,7 +76,7 @@ module _ (d : Declared) (z : Fill) (run : Running d z) where
   own-fits s h =
       omega (arith, load-own (problemOf d) x s h, run .filling .fits (64 + s) (omega arith), ap (λ (v : ℕ). z .den * v) (cap-own (problemOf d) s))
 
-  pub rate-before : (s : ℕ) → s < 32 → x s ≤ 1099511627776
+  pub rate-before : (s : ℕ) → s < 32 → x s ≤ partsLimit
   rate-before s h =
       omega (
         arith,

@@ -16,7 +16,7 @@ use Rattle.sessions.proofs.Members.{has-lt, has-zero}
 use Rattle.sessions.proofs.Counts.{ones-zero}
 use Rattle.sessions.proofs.Operations.{has-or}
 use Rattle.fractions.proofs.Cases.{order}
-use Rattle.filling.specs.SmallestShare.{SmallestAmong, SmallestFits, bothOf, bitOf, smallerOf}
+use Rattle.filling.specs.SmallestShare.{SmallestAmong, SmallestFits, bitOf, bothOf, partsLimit, smallerOf}
 use Rattle.filling.specs.declared.Smallest.{Smallest}
 
 -- THE LINKS OF A SHARE ------------------------------------------------------------------------------------------------
@@ -218,7 +218,7 @@ module _ (l : Smallest) (room at own link num den : ℕ) (n : num ≡ room) (k :
       rw (ne-eqb at 0 some, le-ltb (room * l .count) (l .room * ones at) u, ne-eqb (room * l .count) (l .room * ones at) v) refl
 
 -- its numbers stay small
-pub smaller-fits : (l : Smallest) (room at own link : ℕ) → SmallestFits l → room ≤ 1099511627776 → at < 2 ^ 32 → own < 2 ^ 32 → link < 2 ^ 64
+pub smaller-fits : (l : Smallest) (room at own link : ℕ) → SmallestFits l → room ≤ partsLimit → at < 2 ^ 32 → own < 2 ^ 32 → link < 2 ^ 64
     → SmallestFits (smallerOf l room at own link)
 unfolding smallerOf
 smaller-fits l room at own link f h k m o =

@@ -7,6 +7,7 @@ use mathlib.Core.Path.{_≡_}
 use Prim.Native.Nat.{ℕ, _*_, _+_, _<_, _≤_}
 use lib.Dec.{eqb}
 use lib.ListN.{getD, length}
+use Rattle.fractions.specs.Fraction.{maxRate}
 use Rattle.sessions.specs.Set.{has}
 use Rattle.fairness.specs.Figure1.{any}
 use Rattle.fairness.specs.MaxMin.{MaxMinFair, Problem, used}
@@ -33,8 +34,8 @@ problemOf d =
 
 -- 01, refusal 5: capacities and access rates are at most 1,000,000
 pub record Ranges (d : Declared) : Type 0 where
-  pub capacity : (e : ℕ) → e < 64 → getD (d .capacity) e 0 ≤ 1000000
-  pub access : (s : ℕ) → s < 32 → getD (d .access) s 0 ≤ 1000000
+  pub capacity : (e : ℕ) → e < 64 → getD (d .capacity) e 0 ≤ maxRate
+  pub access : (s : ℕ) → s < 32 → getD (d .access) s 0 ≤ maxRate
 
 -- the answer: session s gets rate s / den, max-min fair; 01, "Fractions": den is at most 118,098; and a link has no room left
 -- exactly where its capacity is fully used

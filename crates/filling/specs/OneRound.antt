@@ -14,7 +14,7 @@ use Rattle.fairness.proofs.Rounds.{Filling}
 use Rattle.fairness.proofs.Denominators.{SmallDenominator}
 use Rattle.declarations.specs.declared.Declared.{Declared}
 use Rattle.filling.specs.Lines.{Ranges, problemOf}
-use Rattle.filling.specs.SmallestShare.{Busy, LinksFit}
+use Rattle.filling.specs.SmallestShare.{Busy, LinksFit, partsLimit}
 use Rattle.filling.specs.declared.Fill.{Fill}
 use Rattle.filling.specs.declared.Given.{Given}
 use Rattle.filling.specs.declared.Link.{Link}
@@ -46,7 +46,7 @@ rateAfter l x s = cond (eqb (has s (l .chosen)) 1) (l .room) (x * l .count)
 
 -- rates whose products fit, and a session that is not declared has none and gets none
 pub record RatesFit (x : List ℕ) (sessions : ℕ) (l : Given) : Type 0 where
-  pub small : (s : ℕ) → s < 32 → getD x s 0 ≤ 1099511627776
+  pub small : (s : ℕ) → s < 32 → getD x s 0 ≤ partsLimit
   pub undeclared : (s : ℕ) → s < 32 → has s sessions ≡ 0 → (getD x s 0 ≡ 0) × (has s (l .chosen) ≡ 0)
 
 pub record RatesAfter (x : List ℕ) (l : Given) (r : List ℕ) : Type 0 where

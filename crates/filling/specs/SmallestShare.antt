@@ -66,20 +66,24 @@ pub record GivenAmong (R W : ℕ → ℕ) (l : Given) : Type 0 where
 
 -- NUMBERS WHOSE PRODUCTS FIT 64 BITS ----------------------------------------------------------------------------------
 
+-- rooms and rates are of at most 2 ^ 40 parts of the common denominator
+abbrev pub partsLimit : ℕ
+partsLimit = 1099511627776
+
 pub record SmallestFits (l : Smallest) : Type 0 where
-  pub room : l .room ≤ 1099511627776
+  pub room : l .room ≤ partsLimit
   pub count : l .count ≤ 32
   pub own : l .own < 4294967296
   pub links : l .links < 18446744073709551616
 
 pub record GivenFits (l : Given) : Type 0 where
-  pub room : l .room ≤ 1099511627776
+  pub room : l .room ≤ partsLimit
   pub count : l .count ≤ 32
   pub chosen : l .chosen < 4294967296
 
 -- and every link with an open session is busy
 pub record LinksFit (k : Links) : Type 0 where
-  pub room : (e : ℕ) → e < 64 → getD (k .room) e 0 ≤ 1099511627776
+  pub room : (e : ℕ) → e < 64 → getD (k .room) e 0 ≤ partsLimit
   pub at : (e : ℕ) → e < 64 → getD (k .at) e 0 < 4294967296
   pub busy : Busy (k .busy) (k .at)
 

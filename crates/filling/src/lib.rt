@@ -4,11 +4,11 @@ ghost use mathlib.Core.Path.{_≡_};
 ghost use Prim.Native.Nat.{ℕ, _*_, _≤_, _<_};
 ghost use lib.Count.{ones};
 ghost use lib.ListN.{getD, length, replicate};
+ghost use Rattle.fractions.specs.Fraction.{maxRate};
 ghost use Rattle.filling.specs.Crossings.{Crossing, WithPath};
 ghost use Rattle.filling.specs.Lines.{Filled, Ranges};
 ghost use Rattle.filling.specs.OneRound.{Enough, LinksAfter, RatesAfter, RatesFit, Running, busyAfter, linkAfter, rateAfter};
-ghost use Rattle.filling.specs.SmallestShare.{GivenFits, LeastLink, LeastOwn, LinksFit, SmallestFits, smallerOf};
-use declarations::Declared;
+ghost use Rattle.filling.specs.SmallestShare.{GivenFits, LeastLink, LeastOwn, LinksFit, SmallestFits, partsLimit, smallerOf};
 use fractions::Part;
 
 // What is left of each link, the sessions there not yet fixed, and the links that have such a session. A link without one keeps what it had
@@ -64,7 +64,7 @@ pub struct Fixed {
 // l, or the share of a link with so much left and these sessions not yet fixed, where that is smaller; of two equal shares the links of both.
 // 01: "how many there are is the count of its ones".
 fn smaller(l: Smallest, room: u64, at: u32, own: u32, link: u64) -> Smallest
-    requires { ⌜ SmallestFits l × (room ≤ 1099511627776) ⌝ }
+    requires { ⌜ SmallestFits l × (room ≤ partsLimit) ⌝ }
     ensures { λ r. ⌜ r ≡ smallerOf l room at own link ⌝ }
 {
     if at == 0 {
@@ -122,7 +122,7 @@ fn least_link(k: Links) -> Smallest
 
 // The same with the own limits. 01: "D acts as one more link that only this session crosses".
 fn least_own(l: Smallest, den: u64, opens: u32, access: [u64; 32], maximum: [u64; 32]) -> Smallest
-    requires { ⌜ SmallestFits l × (den ≤ 118098) × ((s : ℕ) → s < 32 → getD access s 0 ≤ 1000000) ⌝ }
+    requires { ⌜ SmallestFits l × (den ≤ 118098) × ((s : ℕ) → s < 32 → getD access s 0 ≤ maxRate) ⌝ }
     ensures { λ r. ⌜ LeastOwn l den opens access maximum r ⌝ }
 {
     let mut now = l;
@@ -140,7 +140,7 @@ fn least_own(l: Smallest, den: u64, opens: u32, access: [u64; 32], maximum: [u64
 
 // A link after a round: the share is taken from it once for each of its sessions that get it.
 fn link_after(l: Given, room: u64, at: u32) -> Link
-    requires { ⌜ GivenFits l × (room ≤ 1099511627776) × (0 < at → l .room * ones at ≤ room * l .count) ⌝ }
+    requires { ⌜ GivenFits l × (room ≤ partsLimit) × (0 < at → l .room * ones at ≤ room * l .count) ⌝ }
     ensures { λ r. ⌜ r ≡ linkAfter l room at ⌝ }
 {
     if at == 0 {
@@ -193,7 +193,7 @@ fn links_after(k: Links, l: Given) -> Links
 
 // A rate after a round.
 fn rate_after(l: Given, rate: u64, s: u32) -> u64
-    requires { ⌜ GivenFits l × (rate ≤ 1099511627776) × (s < 32) ⌝ }
+    requires { ⌜ GivenFits l × (rate ≤ partsLimit) × (s < 32) ⌝ }
     ensures { λ r. ⌜ r ≡ rateAfter l rate s ⌝ }
 {
     let least = l.room;

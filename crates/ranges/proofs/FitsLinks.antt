@@ -45,7 +45,7 @@ link-fits-back w e l h g =
       store-first w (e * 3) (l .capacity) vs (omega arith),
       store-next w (e * 3) (l .capacity) vs 0 (omega arith) (omega arith),
       store-next w (e * 3) (l .capacity) vs 1 (omega arith) (omega arith),
-      le-leb (l .capacity) 1000000 (g .capacity),
+      le-leb (l .capacity) maxRate (g .capacity),
       le-leb (l .r) 4294967295 (omega (arith, g .r)),
       le-leb (l .f) 4294967295 (omega (arith, g .f)),
     )

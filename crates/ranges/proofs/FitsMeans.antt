@@ -65,7 +65,7 @@ link-fits-means w e h =
     let p = and-both _ _ h in
     let q = and-both _ _ (p .1) in
     rw (
-      field-same 1000000 (getD w (e * 3) 0) (leb-true _ _ (p .0)),
+      field-same maxRate (getD w (e * 3) 0) (leb-true _ _ (p .0)),
       field-same 4294967295 (getD w (e * 3 + 1) 0) (leb-true _ _ (q .0)),
       field-same 4294967295 (getD w (e * 3 + 2) 0) (leb-true _ _ (q .1)),
     )
@@ -102,12 +102,12 @@ source-fits-means w s h =
     let f = and-both (flagsFit b) _ h in
     let p = and-both (numbersFit b) _ (f .1) in
     let n = and-both _ _ (p .0) in
-    let m = and-both _ (leb (getD w (a + 2) 0) 1000000 && leb (getD w (a + 4) 0) 2) (n .1) in
+    let m = and-both _ (leb (getD w (a + 2) 0) maxRate && leb (getD w (a + 4) 0) 2) (n .1) in
     let q = and-both _ (pathFits w s) (p .1) in
     let r = and-both _ _ (q .0) in
     let i : SourceInRange (sourceOf w s) = source-in-range w s in
     record {
-      joined = rw (field-same 1000000 (getD w (a + 1) 0) (leb-true _ _ (m .0))) (ltb-true _ _ (n .0));
+      joined = rw (field-same maxRate (getD w (a + 1) 0) (leb-true _ _ (m .0))) (ltb-true _ _ (n .0));
       access = i .access;
       maximum = i .maximum;
       rate = kept-within (getD w (a + 8) 0) (getD w (a + 8 + 1) 0) (r .0);

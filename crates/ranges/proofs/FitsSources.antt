@@ -10,7 +10,7 @@ use borrow.Author.Tests.{le-leb, leb-true, lt-ltb}
 use lib.Dec.{eqb, leb}
 use lib.ListN.{getD, length}
 use lib.Seq.{getD-set-same}
-use Rattle.fractions.specs.Fraction.{frac, isRateOf}
+use Rattle.fractions.specs.Fraction.{frac, isRateOf, maxRate}
 use Rattle.fractions.proofs.Cases.{and-both}
 use Rattle.fractions.proofs.Ranges.{within-is-rate}
 use Rattle.ends.specs.declared.Source.{Source}
@@ -87,8 +87,8 @@ unfolding numbersFit headWords
 numbers-fit-back z g =
     rw (
       lt-ltb 0 (z .access) (g .joined),
-      le-leb (z .access) 1000000 (g .access),
-      le-leb (z .maximum) 1000000 (g .maximum),
+      le-leb (z .access) maxRate (g .access),
+      le-leb (z .maximum) maxRate (g .maximum),
       mu-most (z .mu),
     )
 

@@ -5,7 +5,7 @@ use mathlib.Core.List.{List}
 use Prim.Native.Nat.{ℕ, zero, suc, _+_, _*_}
 use lib.Dec.{eqb, leb, ltb}
 use lib.ListN.{getD}
-use Rattle.fractions.specs.Fraction.{frac, isRateOf}
+use Rattle.fractions.specs.Fraction.{frac, isRateOf, maxRate}
 use Rattle.table.specs.Words.{blockAt}
 
 -- at most 256 packets
@@ -14,7 +14,7 @@ countFits w = leb (getD w 9152 0) 256
 
 -- a link's capacity, and the words of its R and F
 unfoldable pub linkFits : List ℕ → ℕ → Bool
-linkFits w e = leb (getD w (e * 3) 0) 1000000 && (leb (getD w (e * 3 + 1) 0) 4294967295 && leb (getD w (e * 3 + 2) 0) 4294967295)
+linkFits w e = leb (getD w (e * 3) 0) maxRate && (leb (getD w (e * 3 + 1) 0) 4294967295 && leb (getD w (e * 3 + 2) 0) 4294967295)
 
 -- the entry of session s at link e
 unfoldable pub entryFits : List ℕ → ℕ → ℕ → Bool
@@ -31,7 +31,7 @@ flagsFit b = leb (getD b 0 0) 1 && (leb (getD b 3 0) 1 && (leb (getD b 5 0) 1 &&
 
 -- access, maximum and state
 unfoldable pub numbersFit : List ℕ → Bool
-numbersFit b = ltb 0 (getD b 1 0) && (leb (getD b 1 0) 1000000 && (leb (getD b 2 0) 1000000 && leb (getD b 4 0) 2))
+numbersFit b = ltb 0 (getD b 1 0) && (leb (getD b 1 0) maxRate && (leb (getD b 2 0) maxRate && leb (getD b 4 0) 2))
 
 -- of the next eight: the rate, and the rate told where one was
 unfoldable pub ratesFit : ℕ → List ℕ → Bool

@@ -7,6 +7,7 @@ use Prim.Native.Nat.{ℕ, _+_, _<_, _≤_}
 use native.Mathlib.Decide.{ℕ-discrete}
 use native.Mathlib.Omega.{arith}
 use lib.ListN.{length}
+use Rattle.fractions.specs.Fraction.{maxRate}
 use Rattle.ends.specs.declared.Source.{Source}
 use Rattle.ends.specs.Figure3.{changingOf, leavingOf}
 use Rattle.events.specs.Events.{changeOf, declareOf, joinOf, leaveOf}
@@ -51,7 +52,7 @@ leave-cycle w s ls i c =
     source-keeps-cycle w i c s ls noResponse (leavingOf (sourceOf w s)) (leaving-cycle noResponse (sourceOf w s)) (packetsOf w) v a (i .safe .packets)
     (c .awaited) (λ r. omega arith) (λ t. absurd (clash (isResponse noResponse) t refl)))
 
-pub change-cycle : (w : List ℕ) (s m : ℕ) → s < 32 → m ≤ 1000000 → Inv w → Cycle w → Cycle (changeOf w s m .words)
+pub change-cycle : (w : List ℕ) (s m : ℕ) → s < 32 → m ≤ maxRate → Inv w → Cycle w → Cycle (changeOf w s m .words)
 change-cycle w s m ls lm i c =
     change-either Cycle w s ls (i .safe) c m lm
     (λ active v done a.
@@ -97,7 +98,7 @@ module _ (w : List ℕ) (i : Inv w) (c : Cycle w) (s : ℕ) (x : Rate) (v : List
       (λ r l t. idle r l (ℕ-discrete s r) t)
       (also {q = theJoin s x} (record { new = λ t e l h. absurd (no-entry e l h); waits = λ t e l h n. absurd (no-entry e l h) }) none)
 
-pub join-cycle : (bytes w : List ℕ) (s access maximum n at : ℕ) → s < 32 → 0 < access → access ≤ 1000000 → maximum ≤ 1000000 → pathOk bytes at n ≡ true
+pub join-cycle : (bytes w : List ℕ) (s access maximum n at : ℕ) → s < 32 → 0 < access → access ≤ maxRate → maximum ≤ maxRate → pathOk bytes at n ≡ true
     → at + 8 ≤ length bytes
     → Inv w
     → Cycle w
@@ -122,7 +123,7 @@ module _ (w : List ℕ) (i : Safe w) (c : Cycle w) (e : ℕ) (v : List ℕ) (a :
       (λ r l t. omega (arith, c .idle r l (ap (λ (z : Source). isIdle (z .mu)) (sym (a .sources r l)) ∙ t)))
       none
 
-pub declare-cycle : (w : List ℕ) (e c : ℕ) → e < 64 → c ≤ 1000000 → Safe w → Cycle w → Cycle (declareOf w e c .words)
+pub declare-cycle : (w : List ℕ) (e c : ℕ) → e < 64 → c ≤ maxRate → Safe w → Cycle w → Cycle (declareOf w e c .words)
 declare-cycle w e c le lc i k = declare-either Cycle w e c le lc i k (λ v a. declared-cycle w i k e v a)
 
 -- THE EMPTY TABLE -----------------------------------------------------------------------------------------------------

@@ -8,6 +8,7 @@ use native.Mathlib.Omega.{arith}
 use borrow.Author.Tests.{ltb-false}
 use lib.Count.{onesIn}
 use lib.Dec.{ltb}
+use Rattle.fractions.specs.Fraction.{maxRate}
 use Rattle.events.specs.Events.{Step, declareOf, newLink}
 use Rattle.fairness.proofs.Sums.{sum-none}
 use Rattle.fractions.proofs.Cases.{cases}
@@ -59,7 +60,7 @@ pub record Declared (w : List ℕ) (e : ℕ) (v : List ℕ) : Type 0 where
   pub paths : (s : ℕ) → s < 32 → pathOf v s ≡ pathOf w s
   pub packets : packetsOf v ≡ packetsOf w
 
-pub declare-either : (P : List ℕ → Type 0) (w : List ℕ) (e c : ℕ) → e < 64 → c ≤ 1000000 → Safe w → P w → ((v : List ℕ) → Declared w e v → P v)
+pub declare-either : (P : List ℕ → Type 0) (w : List ℕ) (e c : ℕ) → e < 64 → c ≤ maxRate → Safe w → P w → ((v : List ℕ) → Declared w e v → P v)
     → P (declareOf w e c .words)
 unfolding declareOf
 declare-either P w e c le lc i k f =

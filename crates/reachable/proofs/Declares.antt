@@ -3,6 +3,7 @@
 use mathlib.Core.List.{List, []}
 use mathlib.Core.Path.{_≡_, ap, subst, sym, _∙_}
 use Prim.Native.Nat.{ℕ, _<_, _≤_}
+use Rattle.fractions.specs.Fraction.{maxRate}
 use Rattle.ends.specs.declared.Source.{Source}
 use Rattle.events.specs.Events.{declareOf}
 use Rattle.links.specs.declared.Place.{Place}
@@ -36,5 +37,5 @@ module _ (w : List ℕ) (i : Inv w) (e : ℕ) (v : List ℕ) (a : Declared w e v
         (every-map (packetsOf w) (λ q o. active (q .session) (o .within .session)) (i .safe .packets)) (i .joins));
   }
 
-pub declare-kept : (w : List ℕ) (e c : ℕ) → e < 64 → c ≤ 1000000 → Inv w → Inv (declareOf w e c .words)
+pub declare-kept : (w : List ℕ) (e c : ℕ) → e < 64 → c ≤ maxRate → Inv w → Inv (declareOf w e c .words)
 declare-kept w e c le lc i = declare-either Inv w e c le lc (i .safe) i (λ v a. declared-kept w i e v a)

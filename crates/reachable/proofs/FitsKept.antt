@@ -7,6 +7,7 @@ use mathlib.Core.Path.{_≡_, ap, subst, _∙_}
 use Prim.Native.Nat.{ℕ, _+_, _-_, _*_, _≤_, _<_}
 use native.Mathlib.Omega.{arith}
 use lib.ListN.{getD, length}
+use Rattle.fractions.specs.Fraction.{maxRate}
 use Rattle.ends.specs.declared.Source.{Source}
 use Rattle.events.specs.Events.{newLink}
 use Rattle.fractions.proofs.Cases.{and-both, last, order}
@@ -97,7 +98,7 @@ fits-place w e p l s f =
     })
     f
 
-pub fits-link : (w : List ℕ) (e c : ℕ) → e < 64 → c ≤ 1000000 → Fits w → Fits (putLink w e (newLink c))
+pub fits-link : (w : List ℕ) (e c : ℕ) → e < 64 → c ≤ maxRate → Fits w → Fits (putLink w e (newLink c))
 fits-link w e c l m f =
     let v : List ℕ = putLink w e (newLink c) in
     let n : length w ≡ 9153 = f .long in

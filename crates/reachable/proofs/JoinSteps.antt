@@ -16,7 +16,7 @@ use Rattle.sending.specs.Sending.{noneOf, sentFrom}
 use Rattle.fractions.proofs.Cases.{and-both, cases, not-true}
 use Rattle.fractions.proofs.Ranges.{whole-within}
 use Rattle.fractions.specs.declared.Rate.{Rate}
-use Rattle.fractions.specs.Fraction.{wholeOf}
+use Rattle.fractions.specs.Fraction.{maxRate, wholeOf}
 use Rattle.links.specs.declared.Place.{Place}
 use Rattle.links.specs.Links.{isIdle}
 use Rattle.records.proofs.Alls.{all-at}
@@ -214,7 +214,7 @@ module _ (w : List ℕ) (i : Safe w) (s : ℕ) (ls : s < 32) (bytes : List ℕ) 
         (limit-within z (o .access), tt);
   }
 
-pub join-either : (P : List ℕ → Type 0) (bytes w : List ℕ) (s access maximum n at : ℕ) → s < 32 → 0 < access → access ≤ 1000000 → maximum ≤ 1000000
+pub join-either : (P : List ℕ → Type 0) (bytes w : List ℕ) (s access maximum n at : ℕ) → s < 32 → 0 < access → access ≤ maxRate → maximum ≤ maxRate
     → pathOk bytes at n ≡ true
     → at + 8 ≤ length bytes
     → Safe w

@@ -5,6 +5,7 @@ use mathlib.Core.List.{List, [], _∷_}
 use mathlib.Core.Path.{_≡_, ap, subst, sym, _∙_}
 use Prim.Native.Nat.{ℕ, _+_, _<_, _≤_}
 use lib.ListN.{length}
+use Rattle.fractions.specs.Fraction.{maxRate}
 use Rattle.ends.specs.declared.Source.{Source}
 use Rattle.events.specs.Events.{joinOf}
 use Rattle.fractions.specs.declared.Rate.{Rate}
@@ -49,7 +50,7 @@ module _ (w : List ℕ) (i : Inv w) (s : ℕ) (x : Rate) (v : List ℕ) (a : Joi
         (λ c f. next (λ j t. absurd (clash (activeIn v s) (a .active) t)) end));
   }
 
-pub join-kept : (bytes w : List ℕ) (s access maximum n at : ℕ) → s < 32 → 0 < access → access ≤ 1000000 → maximum ≤ 1000000 → pathOk bytes at n ≡ true
+pub join-kept : (bytes w : List ℕ) (s access maximum n at : ℕ) → s < 32 → 0 < access → access ≤ maxRate → maximum ≤ maxRate → pathOk bytes at n ≡ true
     → at + 8 ≤ length bytes
     → Inv w
     → Inv (joinOf bytes w s access maximum n at .words)

@@ -7,6 +7,7 @@ use mathlib.Core.Path.{_≡_, ap, refl, subst, sym, _∙_}
 use Prim.Native.Nat.{ℕ, _-_, _<_, _≤_}
 use native.Mathlib.Decide.{ℕ-discrete}
 use native.Mathlib.Omega.{arith}
+use Rattle.fractions.specs.Fraction.{maxRate}
 use Rattle.ends.specs.declared.Source.{Source}
 use Rattle.ends.specs.Figure3.{changingOf, leavingOf}
 use Rattle.events.specs.Events.{changeOf, leaveOf}
@@ -98,5 +99,5 @@ module _ (w : List ℕ) (s : ℕ) (ls : s < 32) (i : Inv w) (active : activeIn w
 pub leave-kept : (w : List ℕ) (s : ℕ) → s < 32 → Inv w → Inv (leaveOf w s .words)
 leave-kept w s ls i = leave-either Inv w s ls (i .safe) i (λ active v a. leaving-kept w s ls i active v a)
 
-pub change-kept : (w : List ℕ) (s m : ℕ) → s < 32 → m ≤ 1000000 → Inv w → Inv (changeOf w s m .words)
+pub change-kept : (w : List ℕ) (s m : ℕ) → s < 32 → m ≤ maxRate → Inv w → Inv (changeOf w s m .words)
 change-kept w s m ls lm i = change-either Inv w s ls (i .safe) i m lm (λ active v done a. changing-kept w s ls i active v m done a)

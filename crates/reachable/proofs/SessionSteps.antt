@@ -5,6 +5,7 @@ use mathlib.Core.List.{List, [], _∷_}
 use mathlib.Core.Path.{_≡_, refl, subst, sym}
 use Prim.Native.Nat.{ℕ, _+_, _<_, _≤_}
 use native.Mathlib.Omega.{arith}
+use Rattle.fractions.specs.Fraction.{maxRate}
 use Rattle.ends.specs.declared.SourceDid.{SourceDid}
 use Rattle.ends.specs.Figure3.{changingOf, leavingOf}
 use Rattle.events.specs.Events.{Step, changeOf, leaveOf, sourceSends}
@@ -67,7 +68,7 @@ module _ (P : List ℕ → Type 0) (w : List ℕ) (s : ℕ) (ls : s < 32) (i : S
       (leave-ok w s i ls a) (f a))
       (λ a. k)
 
-  pub change-either : (m : ℕ) → m ≤ 1000000
+  pub change-either : (m : ℕ) → m ≤ maxRate
       → (activeIn w s ≡ true → (v : List ℕ) → SourceDone (sourceOf w s) (changingOf (sourceOf w s) m) → SessionAfter w s (changingOf (sourceOf w s) m) v → P v)
       → P (changeOf w s m .words)
   unfolding changeOf

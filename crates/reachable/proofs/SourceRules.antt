@@ -41,7 +41,7 @@ pub record SourceDone (z : Source) (d : SourceDid) : Type 0 where
   pub on : GoesOn downKind (d .on)
 
 -- D is a rate in range
-pub limit-within : (z : Source) → z .access ≤ 1000000 → Within maxRate (wholeOf (D z))
+pub limit-within : (z : Source) → z .access ≤ maxRate → Within maxRate (wholeOf (D z))
 limit-within z h = whole-within (omega (arith, own-limit-le (z .access) (z .maximum)))
 
 module _ (z : Source) (o : SourceWithin z) where
@@ -128,7 +128,7 @@ pub source-done : (k : Kind) (z : Source) → KindWithin k → SourceWithin z �
 unfolding sourceStepOf
 source-done k z h o = cases (SourceDone z) (z .active) _ _ (λ e. arrived-done k z h o) (λ e. nothing z o)
 
-pub changing-done : (z : Source) (m : ℕ) → m ≤ 1000000 → SourceWithin z → SourceDone z (changingOf z m)
+pub changing-done : (z : Source) (m : ℕ) → m ≤ maxRate → SourceWithin z → SourceDone z (changingOf z m)
 changing-done z m l o =
     let d = request-done (withMaximum z m) (record { joined = o .joined; access = o .access; maximum = l; rate = o .rate; told = o .told }) in
     record { active = d .active; within = d .within; on = d .on }

@@ -36,12 +36,12 @@ field-same most n h = rw (le-leb n most h)
 pub link-in-range : (w : List ℕ) (e : ℕ) → LinkInRange (linkOf w e)
 unfolding linkOf
 link-in-range w e = record {
-  capacity = field-most 1000000 (getD w (e * 3) 0);
+  capacity = field-most maxRate (getD w (e * 3) 0);
   r = omega (arith, field-most 4294967295 (getD w (e * 3 + 1) 0));
   f = omega (arith, field-most 4294967295 (getD w (e * 3 + 2) 0));
 }
 
-pub capacity-most : (w : List ℕ) (e : ℕ) → linkOf w e .capacity ≤ 1000000
+pub capacity-most : (w : List ℕ) (e : ℕ) → linkOf w e .capacity ≤ maxRate
 capacity-most w e = link-in-range w e .capacity
 
 pub r-below : (w : List ℕ) (e : ℕ) → linkOf w e .r < 4294967296
@@ -81,8 +81,8 @@ told-in-range code n d = cases ToldInRange (eqb code 1) _ _ (λ e. kept-sized n 
 pub source-in-range : (w : List ℕ) (s : ℕ) → SourceInRange (sourceOf w s)
 unfolding sourceOf sourceFrom
 source-in-range w s = record {
-  access = field-most 1000000 _;
-  maximum = field-most 1000000 _;
+  access = field-most maxRate _;
+  maximum = field-most maxRate _;
   rate = kept-sized _ _;
   told = told-in-range _ _ _;
 }

@@ -36,7 +36,7 @@ link-back w e l h g =
       store-first w (e * 3) (l .capacity) vs (omega arith),
       store-next w (e * 3) (l .capacity) vs 0 (omega arith) (omega arith),
       store-next w (e * 3) (l .capacity) vs 1 (omega arith) (omega arith),
-      field-same 1000000 (l .capacity) (g .capacity),
+      field-same maxRate (l .capacity) (g .capacity),
       field-same 4294967295 (l .r) (omega (arith, g .r)),
       field-same 4294967295 (l .f) (omega (arith, g .f)),
     )
@@ -102,8 +102,8 @@ unfolding sourceFrom headWords
 source-from-words z rest g =
     rw (
       bit-back (z .active),
-      field-same 1000000 (z .access) (g .access),
-      field-same 1000000 (z .maximum) (g .maximum),
+      field-same maxRate (z .access) (g .access),
+      field-same maxRate (z .maximum) (g .maximum),
       bit-back (z .free),
       mu-back (z .mu),
       kept-same (g .rate),

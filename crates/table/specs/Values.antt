@@ -15,7 +15,7 @@ use Rattle.ends.specs.declared.Told.{Told}
 use Rattle.ends.specs.declared.Told.the-variants as told
 
 pub record LinkInRange (l : Link) : Type 0 where
-  pub capacity : l .capacity ≤ 1000000
+  pub capacity : l .capacity ≤ maxRate
   pub r : l .r < 4294967296
   pub f : l .f < 4294967296
 
@@ -28,8 +28,8 @@ ToldInRange told.Never = Unit {0}
 ToldInRange (told.Rate x) = Sized maxRate x
 
 pub record SourceInRange (z : Source) : Type 0 where
-  pub access : z .access ≤ 1000000
-  pub maximum : z .maximum ≤ 1000000
+  pub access : z .access ≤ maxRate
+  pub maximum : z .maximum ≤ maxRate
   pub rate : Sized maxRate (z .rate)
   pub told : ToldInRange (z .told)
 
@@ -60,8 +60,8 @@ ToldWithin (told.Rate x) = Within maxRate x
 -- the source of a session that has joined
 pub record SourceWithin (z : Source) : Type 0 where
   pub joined : 0 < z .access
-  pub access : z .access ≤ 1000000
-  pub maximum : z .maximum ≤ 1000000
+  pub access : z .access ≤ maxRate
+  pub maximum : z .maximum ≤ maxRate
   pub rate : Within maxRate (z .rate)
   pub told : ToldWithin (z .told)
 

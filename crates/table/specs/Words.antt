@@ -12,7 +12,7 @@ use mathlib.Core.List.{List, [], _∷_}
 use Prim.Native.Nat.{ℕ, zero, suc, _+_, _-_, _*_}
 use lib.Dec.{eqb, ltb}
 use lib.ListN.{getD, replicate, set}
-use Rattle.fractions.specs.Fraction.{keptOf}
+use Rattle.fractions.specs.Fraction.{keptOf, maxRate}
 use Rattle.fractions.specs.declared.Rate.{Rate}
 use Rattle.links.specs.declared.Entry.{Entry}
 use Rattle.tasks.specs.declared.Kind.{Kind}
@@ -59,7 +59,7 @@ putBlock w a b =
 
 unfoldable pub linkOf : List ℕ → ℕ → Link
 linkOf w e = record {
-  capacity = fieldOf 1000000 (getD w (e * 3) 0);
+  capacity = fieldOf maxRate (getD w (e * 3) 0);
   r = fieldOf 4294967295 (getD w (e * 3 + 1) 0);
   f = fieldOf 4294967295 (getD w (e * 3 + 2) 0);
 }
@@ -105,8 +105,8 @@ putPlace w e p = putRow (putLink w e (p .link)) e (p .entries)
 unfoldable pub sourceFrom : List ℕ → List ℕ → Source
 sourceFrom b c = record {
   active = eqb (getD b 0 0) 1;
-  access = fieldOf 1000000 (getD b 1 0);
-  maximum = fieldOf 1000000 (getD b 2 0);
+  access = fieldOf maxRate (getD b 1 0);
+  maximum = fieldOf maxRate (getD b 2 0);
   free = eqb (getD b 3 0) 1;
   mu = muOf (getD b 4 0);
   rate = keptOf (getD c 0 0) (getD c 1 0);

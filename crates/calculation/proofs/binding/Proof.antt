@@ -7,6 +7,7 @@ use lib.ListN.{getD}
 use native.Mathlib.Omega.{arith}
 use borrow.Author.Tests.{eq-eqb, ne-eqb}
 use native.Mathlib.Nat.{le-trans, mul-le-mul}
+use Rattle.fractions.specs.Fraction.{maxRate}
 use Rattle.filling.specs.Lines.{problemOf}
 use Rattle.declarations.proofs.OwnLimit.{own-limit-le}
 use Rattle.calculation.specs.Binding.{bindingOf, fullyUsed, pathBytes}
@@ -33,7 +34,7 @@ mul-most : tie.Need-mul-most
 mul-most c =
     let a = c .before .before .before .args in
     let p = c .before .before .before .pre in
-    let le : c .own-limit .result ≤ 1000000 = rw (c .own-limit .ensures) (le-trans (own-limit-le _ _) (p .0 .access (a .t) (p .2))) in
+    let le : c .own-limit .result ≤ maxRate = rw (c .own-limit .ensures) (le-trans (own-limit-le _ _) (p .0 .access (a .t) (p .2))) in
     omega (arith, mul-le-mul (p .1 .small) le)
 
 mul-if1 : tie.Need-mul-if1

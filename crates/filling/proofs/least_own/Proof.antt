@@ -6,12 +6,13 @@ use native.Mathlib.Nat.{mul-le-mul}
 use native.Mathlib.Omega.{arith}
 use borrow.Author.Needs.{needs}
 use lib.ListN.{getD}
+use Rattle.fractions.specs.Fraction.{maxRate}
 use Rattle.sessions.specs.Set.{cut, has}
 use Rattle.sessions.proofs.Members.{has-cut-le, has-lt}
 use Rattle.sessions.proofs.Walks.{next-below, next-has, next-less}
 use lib.Pow.{pow-lt}
 use Rattle.declarations.proofs.OwnLimit.{own-limit-le}
-use Rattle.filling.specs.SmallestShare.{SmallestAmong, SmallestFits, below, limitsOf, roomOf, smallerOf, wordOf}
+use Rattle.filling.specs.SmallestShare.{SmallestAmong, SmallestFits, below, limitsOf, partsLimit, roomOf, smallerOf, wordOf}
 use Rattle.filling.specs.declared.Links.{Links}
 use Rattle.filling.proofs.SmallestOfAll.{best-all, best-own, best-start, seen}
 use Rattle.filling.proofs.SmallestShare.{smaller-fits}
@@ -43,14 +44,14 @@ less c =
     next-less 32 (z .left) (n .result) (omega arith) (z .inv .0) (n .ensures) (c .cut .result) (c .cut .ensures)
 
 -- den times an own limit fits
-room-fits : (c : tie.After-own-limit Inv-loop μ-loop) → c .before .before .before .before .args .den * c .own-limit .result ≤ 1099511627776
+room-fits : (c : tie.After-own-limit Inv-loop μ-loop) → c .before .before .before .before .args .den * c .own-limit .result ≤ partsLimit
 room-fits c =
     let a = c .before .before .before .before .args in
     let p = c .before .before .before .before .pre in
     let s = c .before .next .result in
     let x = c .own-limit in
     let h = p .2 s (small (c .before)) in
-    let l : x .result ≤ 1000000 = omega (arith, x .ensures, own-limit-le (getD (a .t4) s 0) (getD (a .t5) s 0), h) in
+    let l : x .result ≤ maxRate = omega (arith, x .ensures, own-limit-le (getD (a .t4) s 0) (getD (a .t5) s 0), h) in
     omega (arith, mul-le-mul (p .1) l)
 
 loop-holds : tie.Need-loop-holds Inv-loop μ-loop

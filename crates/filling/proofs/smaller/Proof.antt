@@ -8,7 +8,7 @@ use native.Mathlib.Omega.{arith}
 use borrow.Author.Tests.{eq-eqb}
 use lib.Count.{ones, ones-le}
 use Rattle.sessions.proofs.Counts.{ones-in}
-use Rattle.filling.specs.SmallestShare.{smallerOf}
+use Rattle.filling.specs.SmallestShare.{partsLimit, smallerOf}
 use Rattle.filling.proofs.SmallestShare.{smaller-less, smaller-more, smaller-same}
 use Rattle.filling.proofs.smaller.Statement.{statement}
 use Rattle.filling.proofs.smaller.Tie as tie
@@ -38,7 +38,7 @@ among-requires c κs =
 
 mul-mine : tie.Need-mul-mine
 mul-mine c =
-    let n : c .among .result .num ≤ 1099511627776 = omega (arith, num-is c, c .before .before .before .pre .1) in
+    let n : c .among .result .num ≤ partsLimit = omega (arith, num-is c, c .before .before .before .pre .1) in
     omega (arith, mul-le-mul n (c .before .before .before .pre .0 .count))
 
 mul-best : tie.Need-mul-best
