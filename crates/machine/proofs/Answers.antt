@@ -21,7 +21,7 @@ use Rattle.records.proofs.Somes.{clash}
 use Rattle.machine.specs.declared.Ran.{Ran}
 use Rattle.machine.specs.declared.SettledAnswer.{SettledAnswer}
 use Rattle.machine.specs.declared.SettledAnswer.the-variants as settled
-use Rattle.machine.specs.Machine.{Means, answerOf, machineOf, nothingTaken, ranOf, runOf, turnedAway}
+use Rattle.machine.specs.Machine.{Means, answerOf, machineOf, nothingTaken, ranOf, runRecordsOf, turnedAway}
 
 -- A RUN ---------------------------------------------------------------------------------------------------------------
 
@@ -31,7 +31,7 @@ run-says r u m e = ap (λ (x : records.Ran (List ℕ)). records.saidOf (x .taken
 
 module _ (w s : List ℕ) (p : Bool) (is : p ≡ passes14Of w) where
   abbrev within : records.Ran (List ℕ)
-  within = cond (ltb 32768 (length s)) (turnedAway refusal.TooLong w) (runOf w s)
+  within = cond (ltb 32768 (length s)) (turnedAway refusal.TooLong w) (runRecordsOf w s)
 
   pub handed-away : p ≡ false → (r : Ran) → r ≡ nothingTaken refusal.BadTable → ranOf r w ≡ machineOf w s
   unfolding machineOf
@@ -45,10 +45,10 @@ module _ (w s : List ℕ) (p : Bool) (is : p ≡ passes14Of w) where
     pub too-long : 32768 < length s → (r : Ran) → r ≡ nothingTaken refusal.TooLong → ranOf r w ≡ machineOf w s
     too-long l r e =
         ap (λ (x : Ran). ranOf x w) e
-        ∙ sym (passed ∙ chosen (ltb 32768 (length s)) true (turnedAway refusal.TooLong w) (runOf w s) (lt-ltb 32768 (length s) l))
+        ∙ sym (passed ∙ chosen (ltb 32768 (length s)) true (turnedAway refusal.TooLong w) (runRecordsOf w s) (lt-ltb 32768 (length s) l))
 
-    pub runs : length s ≤ 32768 → (r : Ran) (u : List ℕ) → ranOf r u ≡ runOf w s → ranOf r u ≡ machineOf w s
-    runs l r u e = e ∙ sym (passed ∙ chosen (ltb 32768 (length s)) false (turnedAway refusal.TooLong w) (runOf w s) (le-ltb 32768 (length s) l))
+    pub runs : length s ≤ 32768 → (r : Ran) (u : List ℕ) → ranOf r u ≡ runRecordsOf w s → ranOf r u ≡ machineOf w s
+    runs l r u e = e ∙ sym (passed ∙ chosen (ltb 32768 (length s)) false (turnedAway refusal.TooLong w) (runRecordsOf w s) (le-ltb 32768 (length s) l))
 
 -- SETTLED -------------------------------------------------------------------------------------------------------------
 

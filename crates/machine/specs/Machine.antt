@@ -67,8 +67,8 @@ abbrev pub ranOf : Ran → List ℕ → records.Ran (List ℕ)
 ranOf r w = record { state = w; taken = r .taken; end = r .end }
 
 -- a run of the records: the definition of a run that every call shares
-unfoldable pub runOf : List ℕ → List ℕ → records.Ran (List ℕ)
-runOf w s = records.runOf call.Machine (judging s) (acting s) s w
+unfoldable pub runRecordsOf : List ℕ → List ℕ → records.Ran (List ℕ)
+runRecordsOf w s = records.runOf call.Machine (judging s) (acting s) s w
 
 -- A HANDED TABLE: 14, THEN 1, THEN THE RECORDS ------------------------------------------------------------------------
 
@@ -81,7 +81,7 @@ turnedAway r w = ranOf (nothingTaken r) w
 
 unfoldable pub machineOf : List ℕ → List ℕ → records.Ran (List ℕ)
 machineOf w s =
-    cond (passes14Of w) (cond (ltb inputLimit (length s)) (turnedAway refusal.TooLong w) (runOf w s)) (turnedAway refusal.BadTable w)
+    cond (passes14Of w) (cond (ltb inputLimit (length s)) (turnedAway refusal.TooLong w) (runRecordsOf w s)) (turnedAway refusal.BadTable w)
 
 -- SETTLED -------------------------------------------------------------------------------------------------------------
 

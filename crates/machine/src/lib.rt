@@ -11,7 +11,7 @@ ghost use lib.ListN.{length};
 ghost use Rattle.events.specs.Events.{ended};
 ghost use Rattle.records.specs.Run.{saidOf};
 ghost use Rattle.table.specs.Words.{countOf, emptyWords};
-ghost use Rattle.machine.specs.Machine.{Means, answerOf, machineOf, nothingTaken, ranOf, runOf, sessionOf, sessionReportOf, stepOf};
+ghost use Rattle.machine.specs.Machine.{Means, answerOf, machineOf, nothingTaken, ranOf, runRecordsOf, sessionOf, sessionReportOf, stepOf};
 
 // How many records a run took, and how it ended.
 pub struct Ran {
@@ -76,7 +76,7 @@ fn step(t: &mut [u64; 9153], s: &[u8], at: usize) -> Verdict
 
 // All records of an input, up to the first that is refused.
 fn run_records(t: &mut [u64; 9153], s: &[u8]) -> Ran
-    ensures { λ r. ⌜ ranOf r (now (t .exit)) ≡ runOf (now (t .entry)) (now (s .entry)) ⌝ }
+    ensures { λ r. ⌜ ranOf r (now (t .exit)) ≡ runRecordsOf (now (t .entry)) (now (s .entry)) ⌝ }
 {
     let mut at: usize = 0;
     let mut n: usize = 0;

@@ -7,7 +7,7 @@ use lib.ListN.{length}
 use Rattle.events.specs.Events.{eventOf}
 use Rattle.fractions.proofs.Cases.{cases}
 use Rattle.handed.specs.Handed.{passes14Of}
-use Rattle.machine.specs.Machine.{acting, judging, machineOf, runOf}
+use Rattle.machine.specs.Machine.{acting, judging, machineOf, runRecordsOf}
 use Rattle.records.specs.declared.Call.the-variants as call
 use Rattle.records.specs.declared.Record.{Record}
 use Rattle.records.specs.Format.{Bytes, RecordOk}
@@ -18,8 +18,8 @@ use Rattle.table.specs.Words.{emptyWords}
 use Rattle.reachable.specs.Reachable.{Reachable, empty, ran}
 
 module _ (P : List ℕ → Type 0) (keeps : (s w : List ℕ) (x : Record) → RecordOk s x → P w → P (eventOf s w x .words)) where
-  run-kept : (w s : List ℕ) → Bytes s → P w → P (runOf w s .state)
-  unfolding runOf
+  run-kept : (w s : List ℕ) → Bytes s → P w → P (runRecordsOf w s .state)
+  unfolding runRecordsOf
   run-kept w s bytes i = run-keeps P call.Machine (judging s) (acting s) s bytes (λ z x o k. keeps s z x k o) (length s) w 0 0 i
 
   pub machine-kept : (w s : List ℕ) → Bytes s → P w → P (machineOf w s .state)

@@ -12,7 +12,6 @@ use lib.Seq.{drop-cons, paste, paste-suc, take-all}
 use Rattle.links.specs.declared.Entry.{Entry}
 use Rattle.table.specs.Words.{entriesFrom, entryOf, hopFrom, movedUp, putEntry, stopOf, stopsFrom, storeEntries}
 use Rattle.links.specs.Links.{noEntry}
-use Rattle.table.specs.Ranges.{stopsFit}
 
 -- A ROW READ ----------------------------------------------------------------------------------------------------------
 

@@ -4,7 +4,6 @@ ghost use Prim.Native.Nat.{_+_, _≤_, _<_};
 ghost use lib.ListN.{length, replicate};
 ghost use Rattle.table.specs.Words.{blockAt, putBlock, linkOf, putLink, entryOf, putEntry, rowOf, putRow, placeOf, putPlace, sourceFrom, sourceOf, headWords, putRates, putSource, hopsOf, putHops, stopOf, putPath, hopOf, kindOf, packetFrom, packetWords, packetOf, putPacket, countOf, putCount, appended, removed, emptyWords};
 ghost use Rattle.table.specs.Codes.{bitOf, etaCode, etaOf, fieldOf, muCode, muOf, tauCode, tauOf, toldCode, toldOf, toldRate};
-ghost use Rattle.table.specs.Ranges.{countFits, linkFits, entryFits, standingFits, flagsFit, numbersFit, ratesFit, stopsFit, pathFits, sourceFits, ratedFits, kindFits, wordsFit, packetFits};
 use ends::Source;
 use ends::Told;
 use fractions::Rate;

@@ -9,14 +9,14 @@ use native.Mathlib.Nat.{sub-zero}
 use Rattle.records.specs.declared.Call.the-variants as call
 use Rattle.records.specs.Format.{sizeAt}
 use Rattle.records.proofs.Runs.{run-end}
-use Rattle.machine.specs.Machine.{acting, judging, runOf}
+use Rattle.machine.specs.Machine.{acting, judging, runRecordsOf}
 use Rattle.machine.proofs.Turns.{going, turn-ends, turn-refused, turn-taken}
 use borrow.Author.Needs.{needs}
 use Rattle.machine.proofs.run_records.Statement.{statement}
 use Rattle.machine.proofs.run_records.Tie as tie
 
 abbrev Inv-loop : tie.InvT-loop
-Inv-loop t₀ s at₀ n₀ t at n = (n ≤ at) × (at ≤ length s) × (going s (length s - n) t n at ≡ runOf t₀ s)
+Inv-loop t₀ s at₀ n₀ t at n = (n ≤ at) × (at ≤ length s) × (going s (length s - n) t n at ≡ runRecordsOf t₀ s)
 
 abbrev μ-loop : tie.MeasureT-loop
 μ-loop t₀ s at₀ n₀ t at n = length s - at
@@ -30,7 +30,7 @@ ends c = (
 )
 
 loop-holds : tie.Need-loop-holds Inv-loop μ-loop
-unfolding runOf
+unfolding runRecordsOf
 loop-holds c = (omega arith, omega arith, rw sub-zero)
 
 step-requires : tie.Need-step-requires Inv-loop μ-loop
