@@ -9,6 +9,7 @@ ghost use Rattle.filling.specs.Crossings.{Crossing, WithPath};
 ghost use Rattle.filling.specs.Lines.{Filled, Ranges};
 ghost use Rattle.filling.specs.OneRound.{Enough, LinksAfter, RatesAfter, RatesFit, Running, busyAfter, linkAfter, rateAfter};
 ghost use Rattle.filling.specs.SmallestShare.{GivenFits, LeastLink, LeastOwn, LinksFit, SmallestFits, partsLimit, smallerOf};
+use declarations::Declared;
 use fractions::Part;
 
 // What is left of each link, the sessions there not yet fixed, and the links that have such a session. A link without one keeps what it had

@@ -9,7 +9,7 @@ use borrow.Author.Tests.{eq-eqb, eqb-false, eqb-true, le-leb, leb-true, lt-ltb, 
 use lib.Dec.{eqb, leb, ltb}
 use Rattle.fractions.proofs.Cases.{and-both, cases, not-false, not-true, or-either}
 use Rattle.links.specs.declared.Total.the-variants as total
-use Rattle.links.specs.Links.{B, holds, isFine, sumOf}
+use Rattle.links.specs.Links.{B, holds, isFine, isPastC, sumOf}
 use Rattle.records.specs.Format.{all}
 use Rattle.records.proofs.Alls.{all-at, all-below, all-fails}
 use Rattle.records.proofs.Somes.{all-some, clash, implied, implies, not-so}
@@ -17,7 +17,7 @@ use Rattle.sessions.specs.Set.{hasOf}
 use Rattle.ranges.specs.Ranges.{entryFits, linkFits, packetFits, sourceFits, standingFits}
 use Rattle.table.specs.Words.{countOf, hopOf, hopsOf, linkOf, packetOf, placeOf, sourceOf, stopOf}
 use Rattle.tasks.specs.Packets.{goesDown, isLeave}
-use Rattle.handed.specs.Handed.{apart, entriesInRange, entriesLive, entriesOnPath, entryInRange, entryLive, entryOnPath, hasJoined, hopOnPath, isPastC, leaveAhead, leaveToCome, linksInRange, packetOnItsWay, packetOnPath, packetsInRange, packetsOnPath, packetsOnTheirWay, pathDeclared, pathOnce, pathsDeclared, pathsOnce, rowApart, rowInRange, rowLive, rowOnPath, sessionApart, sourceInRange, sourcesInRange, stopDeclared, stopNew, sumFits, sumsFit}
+use Rattle.handed.specs.Handed.{apart, entriesInRange, entriesLive, entriesOnPath, entryInRange, entryLive, entryOnPath, hasJoined, hopOnPath, leaveAhead, leaveToCome, linksInRange, packetOnItsWay, packetOnPath, packetsInRange, packetsOnPath, packetsOnTheirWay, pathDeclared, pathOnce, pathsDeclared, pathsOnce, rowApart, rowInRange, rowLive, rowOnPath, sessionApart, sourceInRange, sourcesInRange, stopDeclared, stopNew, sumFits, sumsFit}
 use Rattle.handed.specs.Passes.{LeaveToCome}
 use Rattle.handed.proofs.Ways.{both-not, cond-else, cond-then, hop-down, hop-on, hop-up, not-both, same-way, way-same, within, within-test}
 

@@ -6,13 +6,13 @@ use Prim.Native.Nat.{ℕ, _*_, _+_, _<_}
 use native.Mathlib.Omega.{arith}
 use lib.Count.{onesIn}
 use Rattle.links.specs.declared.Total.the-variants as total
-use Rattle.links.specs.Links.{B, boundOf, holds, isFine}
+use Rattle.links.specs.Links.{B, boundOf, holds, isFine, isPastC}
 use Rattle.records.proofs.Somes.{clash}
 use Rattle.ranges.specs.Ranges.{countFits, linkFits, standingFits}
 use Rattle.table.specs.Words.{countOf, emptyWords, hopsOf, placeOf, sourceOf}
 use Rattle.table.proofs.Empty.{empty-count, empty-hops, empty-word}
 use Rattle.table.proofs.EmptyLinks.{empty-R, empty-sum, none-active, none-held, none-in-F}
-use Rattle.handed.specs.Handed.{isPastC, passes14Of}
+use Rattle.handed.specs.Handed.{passes14Of}
 use Rattle.handed.specs.Passes.{Passes}
 use Rattle.handed.proofs.Passing.{means-passes}
 

@@ -10,7 +10,8 @@ use Rattle.links.specs.declared.Total.{Total}
 use Rattle.links.specs.declared.Total.the-variants as total
 use Rattle.records.proofs.Somes.{clash}
 use Rattle.tasks.specs.Packets.{sameWay}
-use Rattle.handed.specs.Handed.{hopOnPath, isPastC}
+use Rattle.links.specs.Links.{isPastC}
+use Rattle.handed.specs.Handed.{hopOnPath}
 
 pub hop-down : (n h : ℕ) (d : Bool) → hopOnPath n d h ≡ true → d ≡ true → (0 < h) × (h ≤ n + 1)
 hop-down n h true e q = let b = and-both (ltb 0 h) (leb h (n + 1)) e in (ltb-true 0 h (b .0), leb-true h (n + 1) (b .1))

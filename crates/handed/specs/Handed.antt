@@ -7,9 +7,7 @@ use mathlib.Core.Bool.{Bool, cond, false, not, true, _&&_, _||_}
 use mathlib.Core.List.{List}
 use Prim.Native.Nat.{ℕ, _+_}
 use lib.Dec.{eqb, leb, ltb}
-use Rattle.links.specs.declared.Total.{Total}
-use Rattle.links.specs.declared.Total.the-variants as total
-use Rattle.links.specs.Links.{B, holds, isFine, sumOf}
+use Rattle.links.specs.Links.{B, holds, isFine, isPastC, sumOf}
 use Rattle.records.specs.Format.{all}
 use Rattle.sessions.specs.Set.{hasOf}
 use Rattle.ranges.specs.Ranges.{countFits, entryFits, linkFits, packetFits, sourceFits, standingFits}
@@ -136,11 +134,6 @@ unfoldable pub entriesLive : List ℕ → Bool
 entriesLive w = all 64 (rowLive w)
 
 -- "A LINK WHOSE F SUMS PAST C OR WHOSE SUMS OR B MEET 12" -------------------------------------------------------------
-
-abbrev pub isPastC : Total → Bool
-isPastC (total.Rate y) = false
-isPastC total.TooFine = false
-isPastC total.PastC = true
 
 -- where a partial sum is too fine, B is (links, `boundOf`)
 unfoldable pub sumFits : List ℕ → ℕ → Bool

@@ -3,8 +3,7 @@ ghost use mathlib.Core.Path.{_≡_};
 ghost use Prim.Native.Nat.{_≤_, _<_};
 ghost use Rattle.links.specs.Links.{holds};
 ghost use Rattle.table.specs.Words.{placeOf};
-ghost use Rattle.handed.specs.Handed.{apart, entriesInRange, entriesLive, entriesOnPath, entryInRange, entryLive, entryOnPath, fieldsInRange, hopOnPath, isPastC, leaveAhead, leaveToCome, linksInRange, linksPass, packetOnItsWay, packetOnPath, packetsInRange, packetsOnPath, packetsOnTheirWay, passes14Of, pathDeclared, pathOnce, pathsDeclared, pathsOnce, pathsPass, rowApart, rowInRange, rowLive, rowOnPath, sessionApart, sourceInRange, sourcesInRange, stopDeclared, stopNew, sumFits, sumsFit};
-use links::Total;
+ghost use Rattle.handed.specs.Handed.{apart, entriesInRange, entriesLive, entriesOnPath, entryInRange, entryLive, entryOnPath, fieldsInRange, hopOnPath, leaveAhead, leaveToCome, linksInRange, linksPass, packetOnItsWay, packetOnPath, packetsInRange, packetsOnPath, packetsOnTheirWay, passes14Of, pathDeclared, pathOnce, pathsDeclared, pathsOnce, pathsPass, rowApart, rowInRange, rowLive, rowOnPath, sessionApart, sourceInRange, sourcesInRange, stopDeclared, stopNew, sumFits, sumsFit};
 
 // Whether link e holds session s.
 fn held_at(t: &[u64; 9153], e: usize, s: usize) -> bool
@@ -390,23 +389,13 @@ fn entries_live(t: &[u64; 9153]) -> bool
 
 // "A LINK WHOSE F SUMS PAST C OR WHOSE SUMS OR B MEET 12" -------------------------------------------------------------
 
-fn is_past_c(total: Total) -> bool
-    ensures { λ r. ⌜ r ≡ isPastC total ⌝ }
-{
-    match total {
-        Total::Rate(y) => false,
-        Total::TooFine => false,
-        Total::PastC => true,
-    }
-}
-
 fn sum_fits(t: &[u64; 9153], e: usize) -> bool
     requires { ⌜ e < 64 ⌝ }
     ensures { λ r. ⌜ r ≡ sumFits (now (t .entry)) e ⌝ }
 {
     let p = table::place_at(t, e);
     let total = links::sum_of_f(p);
-    if is_past_c(total) {
+    if links::is_past_c(total) {
         return false;
     }
     let b = links::bottleneck_rate(p);

@@ -1,8 +1,8 @@
 -- `handed::sum_fits` meets its contract.
 -- Assumes nothing.
 use mathlib.Core.Path.{ap, subst, sym, _∙_}
-use Rattle.links.specs.Links.{B, Workable, isFine, sumOf}
-use Rattle.handed.specs.Handed.{isPastC, sumFits}
+use Rattle.links.specs.Links.{B, Workable, isFine, isPastC, sumOf}
+use Rattle.handed.specs.Handed.{sumFits}
 use Rattle.table.proofs.Workables.{place-workable}
 use borrow.Author.Needs.{needs}
 use Rattle.handed.proofs.sum_fits.Statement.{statement}
