@@ -8,34 +8,7 @@ use crate::runs::batch;
 use crate::tally::Tally;
 use crate::words::{clear_unused, in_use, link_at, packet_at, source_at, Words, LINKS, SESSIONS};
 use crate::world::World;
-
-/// Numbers at the limits of the fields, and next to them.
-pub const ODD_NUMBERS: [u64; 24] = [
-    0,
-    1,
-    2,
-    3,
-    4,
-    5,
-    6,
-    7,
-    8,
-    9,
-    10,
-    31,
-    32,
-    63,
-    64,
-    255,
-    256,
-    1_000_000,
-    1_000_001,
-    1_048_576,
-    1_048_577,
-    1 << 32,
-    u64::MAX - 1,
-    u64::MAX,
-];
+use second::making::ODD_NUMBERS;
 
 fn reached(random: &mut Random, tally: &mut Tally) -> Result<(World, Pair), Difference> {
     let world = World::new(random, 3, 4);

@@ -2,13 +2,12 @@
 
 use second::machine::{passes_14, Fault};
 
-use crate::damage::ODD_NUMBERS;
 use crate::difference::{same, Difference};
 use crate::pair::Pair;
 use crate::random::Random;
 use crate::tally::Tally;
 use crate::words::{entry_at, in_use, link_at, packet_at, source_at, table_of, Words, COUNT};
-use second::making::{deliver, leave, link, session};
+use second::making::{deliver, leave, link, session, ODD_NUMBERS};
 
 // A packet of session 0 for each kind that `reached` has none of: hop, down, kind, rate, name, and what
 // a Response or SetBottleneck says.

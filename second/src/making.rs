@@ -3,6 +3,34 @@
 
 use crate::machine::table::Packet;
 
+/// Numbers at the limits of the fields, and next to them.
+pub const ODD_NUMBERS: [u64; 24] = [
+    0,
+    1,
+    2,
+    3,
+    4,
+    5,
+    6,
+    7,
+    8,
+    9,
+    10,
+    31,
+    32,
+    63,
+    64,
+    255,
+    256,
+    1_000_000,
+    1_000_001,
+    1_048_576,
+    1_048_577,
+    1 << 32,
+    u64::MAX - 1,
+    u64::MAX,
+];
+
 /// How many bytes a record of this kind has.
 pub fn record_bytes(kind: u8) -> usize {
     match kind {

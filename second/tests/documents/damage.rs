@@ -5,6 +5,7 @@ use crate::random::{check_record, random_run, Seen};
 use crate::world::{world, World};
 use second::machine::table::{Table, NEVER_JOINED, YES};
 use second::machine::{passes_14, run, settled};
+use second::making::ODD_NUMBERS;
 
 // Every field that exists in a table.
 fn fields(table: &mut Table) -> Vec<&mut u64> {
@@ -57,29 +58,6 @@ fn fields(table: &mut Table) -> Vec<&mut u64> {
     }
     fields
 }
-
-const ODD_NUMBERS: [u64; 20] = [
-    0,
-    1,
-    2,
-    3,
-    5,
-    7,
-    9,
-    10,
-    63,
-    64,
-    99,
-    200,
-    255,
-    1_000_000,
-    1_000_001,
-    1_048_576,
-    1_048_577,
-    1 << 32,
-    u64::MAX - 1,
-    u64::MAX,
-];
 
 // Damaged tables are refused 14 and left, or they are run on: every call ends, and a refusal leaves
 // the table as it was.
