@@ -1,4 +1,4 @@
-//! Records as bytes (01, "Records") and the choice of the packet to deliver: what all share that try
+//! Records as bytes (01, "Records"), the choice of the packet to deliver, and numbers at the limits: what all share that try
 //! this implementation or compare with it.
 
 use crate::machine::table::Packet;
