@@ -1,14 +1,25 @@
-// A link with its entries: its words R and F, the sum of F, its rate B, sets of its sessions, and the F check (001, section III).
+// A link with its entries: its words R and F, and sets of its sessions (001, section III). Its B is in sums.rt, the F check in check.rt.
+mod check;
+mod sums;
+
+pub use check::check_f;
+pub use check::process_new_restricted;
 use fractions::Rate;
-use fractions::Share;
-use fractions::Sum;
+pub use sums::above_b;
+use sums::at_least_b;
+pub use sums::at_most_b;
+pub use sums::below_b;
+pub use sums::bottleneck_rate;
+pub use sums::equals_b;
+pub use sums::is_fine;
+pub use sums::is_past_c;
+pub use sums::sum_of_f;
 ghost use mathlib.Core.Bool.{cond};
 ghost use mathlib.Core.Path.{_≡_};
 ghost use Prim.Native.Nat.{ℕ, _≤_, _<_};
 ghost use Rattle.fractions.specs.Fraction.{Sized, maxRate};
 ghost use Rattle.sessions.specs.Set.{put};
-ghost use Rattle.links.specs.FCheck.{checkOf, checkedOf, higherOf, highestOf, processOf, turnOf};
-ghost use Rattle.links.specs.Links.{B, BoundSized, Rates, SumSized, TotalSized, WantedSized, Workable, aboveB, allAtB, asBound, atLeastB, atMostB, belowB, boundOf, equalsB, holds, isFine, isIdle, isPastC, meetsOf, moreOf, sumOf, thoseOf, uptoOf, waitingOf, withEntry, withMu, withWords, totalSaid, boundSaid};
+ghost use Rattle.links.specs.Links.{BoundSized, Rates, WantedSized, allAtB, holds, isIdle, meetsOf, thoseOf, waitingOf, withEntry, withMu, withWords};
 
 // The state of a session at a link or at its source.
 pub enum Mu {
@@ -121,184 +132,6 @@ pub fn with_mu(p: Place, s: u32, m: Mu) -> Place
     with_entry(p, s, Entry { mu: m, rate: rate })
 }
 
-// A sum at a link of this capacity.
-fn up_to(capacity: u64, sum: Sum) -> Total
-    requires { ⌜ (capacity ≤ maxRate) × SumSized sum ⌝ }
-    ensures { λ r. ⌜ r ≡ uptoOf capacity sum ⌝ }
-{
-    match sum {
-        Sum::Rate(y) => {
-            let all = Rate::whole(capacity);
-            if y.le(all) {
-                Total::Rate(y)
-            } else {
-                Total::PastC
-            }
-        }
-        Sum::TooFine => Total::TooFine,
-    }
-}
-
-// A total with one rate more.
-fn more(capacity: u64, total: Total, x: Rate) -> Total
-    requires { ⌜ (capacity ≤ maxRate) × TotalSized capacity total × Sized maxRate x ⌝ }
-    ensures { λ r. ⌜ r ≡ moreOf capacity total x ⌝ }
-{
-    match total {
-        Total::Rate(y) => {
-            let sum = y.plus(x);
-            up_to(capacity, sum)
-        }
-        Total::TooFine => Total::TooFine,
-        Total::PastC => Total::PastC,
-    }
-}
-
-// The sum of F, by rising session number.
-pub fn sum_of_f(p: Place) -> Total
-    requires { ⌜ Workable p ⌝ }
-    ensures exact { λ r. ⌜ r ≡ sumOf p ⌝ }
-    ensures said { λ r. ⌜ totalSaid r ≡ totalSaid (sumOf p) ⌝ }
-{
-    let capacity = p.link.capacity;
-    let mut total = Total::Rate(Rate::zero());
-    let mut left = p.link.f;
-    while left != 0 {
-        let s = sessions::next(left);
-        let x = p.entries[s as usize];
-        total = more(capacity, total, x.rate);
-        left = sessions::cut(left, s);
-    }
-    total
-}
-
-// Whether it is past the capacity.
-pub fn is_past_c(total: Total) -> bool
-    ensures { λ r. ⌜ r ≡ isPastC total ⌝ }
-{
-    match total {
-        Total::Rate(y) => false,
-        Total::TooFine => false,
-        Total::PastC => true,
-    }
-}
-
-// A link's share as its B.
-fn as_bound(share: Share) -> Bound
-    ensures { λ r. ⌜ r ≡ asBound share ⌝ }
-{
-    match share {
-        Share::Rate(b) => Bound::At(b),
-        Share::TooFine => Bound::TooFine,
-    }
-}
-
-// B of a link of this capacity with so many members of R, whose F comes to a total.
-fn bound_from(capacity: u64, count: u32, total: Total) -> Bound
-    requires { ⌜ (capacity ≤ maxRate) × (count ≤ 32) × TotalSized capacity total ⌝ }
-    ensures { λ r. ⌜ r ≡ boundOf capacity count total ⌝ }
-{
-    match total {
-        Total::Rate(y) => {
-            if count == 0 {
-                Bound::Above
-            } else {
-                let share = Rate::share(capacity, y, count as u64);
-                as_bound(share)
-            }
-        }
-        Total::TooFine => Bound::TooFine,
-        Total::PastC => {
-            if count == 0 {
-                Bound::Above
-            } else {
-                Bound::At(Rate::zero())
-            }
-        }
-    }
-}
-
-// The rate B that this link can give each session of R.
-pub fn bottleneck_rate(p: Place) -> Bound
-    requires { ⌜ Workable p ⌝ }
-    ensures exact { λ r. ⌜ r ≡ B p ⌝ }
-    ensures said { λ r. ⌜ boundSaid r ≡ boundSaid (B p) ⌝ }
-{
-    let total = sum_of_f(p);
-    bound_from(p.link.capacity, sessions::size(p.link.r), total)
-}
-
-// Whether neither a partial sum nor B is over the limit.
-pub fn is_fine(b: Bound) -> bool
-    ensures { λ r. ⌜ r ≡ isFine b ⌝ }
-{
-    match b {
-        Bound::At(x) => true,
-        Bound::Above => true,
-        Bound::TooFine => false,
-    }
-}
-
-// x > B.
-pub fn above_b(b: Bound, x: Rate) -> bool
-    requires { ⌜ BoundSized b × Sized maxRate x ⌝ }
-    ensures { λ r. ⌜ r ≡ aboveB b x ⌝ }
-{
-    match b {
-        Bound::At(y) => y.lt(x),
-        Bound::Above => false,
-        Bound::TooFine => false,
-    }
-}
-
-// x ≥ B.
-fn at_least_b(b: Bound, x: Rate) -> bool
-    requires { ⌜ BoundSized b × Sized maxRate x ⌝ }
-    ensures { λ r. ⌜ r ≡ atLeastB b x ⌝ }
-{
-    match b {
-        Bound::At(y) => y.le(x),
-        Bound::Above => false,
-        Bound::TooFine => false,
-    }
-}
-
-// x = B.
-pub fn equals_b(b: Bound, x: Rate) -> bool
-    requires { ⌜ BoundSized b × Sized maxRate x ⌝ }
-    ensures { λ r. ⌜ r ≡ equalsB b x ⌝ }
-{
-    match b {
-        Bound::At(y) => x.same(y),
-        Bound::Above => false,
-        Bound::TooFine => false,
-    }
-}
-
-// x < B.
-pub fn below_b(b: Bound, x: Rate) -> bool
-    requires { ⌜ BoundSized b × Sized maxRate x ⌝ }
-    ensures { λ r. ⌜ r ≡ belowB b x ⌝ }
-{
-    match b {
-        Bound::At(y) => x.lt(y),
-        Bound::Above => true,
-        Bound::TooFine => false,
-    }
-}
-
-// x ≤ B.
-pub fn at_most_b(b: Bound, x: Rate) -> bool
-    requires { ⌜ BoundSized b × Sized maxRate x ⌝ }
-    ensures { λ r. ⌜ r ≡ atMostB b x ⌝ }
-{
-    match b {
-        Bound::At(y) => x.le(y),
-        Bound::Above => true,
-        Bound::TooFine => false,
-    }
-}
-
 // Whether an entry is what is asked for.
 fn meets(asked: Wanted, x: Entry) -> bool
     requires { ⌜ WantedSized asked × Sized maxRate (x .rate) ⌝ }
@@ -365,80 +198,4 @@ pub fn waiting(p: Place, w: u32) -> Place
         left = sessions::cut(left, s);
     }
     next
-}
-
-// The higher of two rates.
-fn higher(a: Rate, b: Rate) -> Rate
-    requires { ⌜ Sized maxRate a × Sized maxRate b ⌝ }
-    ensures { λ r. ⌜ r ≡ higherOf a b ⌝ }
-{
-    if a.le(b) { b } else { a }
-}
-
-// The highest rate of F.
-fn highest(p: Place) -> Rate
-    requires { ⌜ Rates (p .entries) ⌝ }
-    ensures { λ r. ⌜ r ≡ highestOf p ⌝ }
-{
-    let mut m = Rate::zero();
-    let mut left = p.link.f;
-    while left != 0 {
-        let s = sessions::next(left);
-        let x = p.entries[s as usize];
-        m = higher(m, x.rate);
-        left = sessions::cut(left, s);
-    }
-    m
-}
-
-// One turn of the F check: the members of F with the highest rate return to R.
-fn turned(p: Place) -> Place
-    requires { ⌜ Rates (p .entries) ⌝ }
-    ensures { λ r. ⌜ r ≡ turnOf p ⌝ }
-{
-    let m = highest(p);
-    let back = those(Wanted::Equal(m), p, p.link.f);
-    let rest = those(Wanted::Other(m), p, p.link.f);
-    with_words(p, p.link.r | back, rest)
-}
-
-// The F check: members of F with a rate of at least B return to R, the highest first, B worked out anew each time.
-pub fn check_f(p: Place) -> Checked
-    requires { ⌜ Workable p ⌝ }
-    ensures { λ r. ⌜ r ≡ checkedOf (checkOf 32 p) ⌝ }
-{
-    let mut now = p;
-    for k in 0..32usize {
-        let b = bottleneck_rate(now);
-        let back = those(Wanted::AtLeast(b), now, now.link.f);
-        if back == 0 {
-            return Checked {
-                place: now,
-                bound: b,
-            };
-        }
-        now = turned(now);
-    }
-    let last = bottleneck_rate(now);
-    Checked {
-        place: now,
-        bound: last,
-    }
-}
-
-// ProcessNewRestricted: the F check, and then the idle members of R above B are to be updated.
-pub fn process_new_restricted(p: Place) -> Processed
-    requires { ⌜ Workable p ⌝ }
-    ensures { λ r. ⌜ r ≡ processOf p ⌝ }
-{
-    let q = check_f(p);
-    let left = q.place;
-    let b = q.bound;
-    let over = those(Wanted::IdleAbove(b), left, left.link.r);
-    let next = waiting(left, over);
-    Processed {
-        place: next,
-        to: over,
-        bound: b,
-    }
 }
