@@ -1,0 +1,44 @@
+-- `table::stop_at` meets its contract.
+-- Assumes nothing.
+use borrow.Author.Needs.{needs}
+use Rattle.table.specs.Words.{stopOf}
+use Rattle.table.proofs.sources.stop_at.Statement.{statement}
+use Rattle.table.proofs.sources.stop_at.Tie as tie
+
+mul-field : tie.Need-mul-field
+mul-field c = search needs
+
+add-field : tie.Need-add-field
+add-field c = search needs
+
+add-field-2 : tie.Need-add-field-2
+add-field-2 c = search needs
+
+add-field-3 : tie.Need-add-field-3
+add-field-3 c = search needs
+
+mul-field-2 : tie.Need-mul-field-2
+mul-field-2 c = search needs
+
+element-copy-out-field : tie.Need-element-copy-out-field
+element-copy-out-field c = search needs
+
+field-requires : tie.Need-field-requires
+field-requires c κs = search needs
+
+returns : tie.Need-returns
+unfolding stopOf
+returns c = c .field .ensures .0
+
+pub stop-at-spec : {M : Type 1} → statement M
+stop-at-spec =
+    tie.close
+    (tie.spec
+    mul-field
+    add-field
+    add-field-2
+    add-field-3
+    mul-field-2
+    element-copy-out-field
+    field-requires
+    returns)
