@@ -10,14 +10,14 @@ use tasks::Onward;
 use tasks::Packet;
 ghost use mathlib.Core.Bool.{not, true, _&&_};
 ghost use mathlib.Core.Path.{_≡_};
-ghost use Prim.Native.Nat.{ℕ, _+_, _-_, _≤_, _<_};
+ghost use Prim.Native.Nat.{_+_, _≤_, _<_};
 ghost use lib.Dec.{ltb};
 ghost use lib.ListN.{length};
 ghost use Rattle.records.specs.Format.{RecordOk};
 ghost use Rattle.records.specs.Run.{verdictNumber};
 ghost use Rattle.records.specs.Limits.{linkLimit, packetLimit};
 ghost use Rattle.table.specs.Values.{PacketInRange};
-ghost use Rattle.table.specs.Words.{countOf, declaredIn, packetOf, putHops, putPath, putPlace, putSource, removed};
+ghost use Rattle.table.specs.Words.{countOf, declaredIn, putHops, putPath, putPlace, putSource, removed};
 ghost use Rattle.sending.specs.Sending.{oneIf, sendAllOf, sendOnOf};
 ghost use Rattle.events.specs.Events.{arriveOf, atDestinationOf, atLinkOf, atSourceOf, changeOf, declareOf, deliverOf, ended, eventOf, joinOf, leaveOf, pathDeclaredIn, sourceSends};
 

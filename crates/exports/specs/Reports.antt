@@ -4,7 +4,6 @@ use mathlib.Core.List.{List, [], _∷_}
 use Prim.Native.Nat.{ℕ}
 use Rattle.calculation.specs.Calculating as calculation
 use Rattle.calculation.specs.declared.Calculated.{Calculated}
-use Rattle.machine.specs.Machine as machine
 use Rattle.machine.specs.declared.SettledAnswer.{SettledAnswer}
 use Rattle.machine.specs.declared.SettledAnswer.the-variants as settled
 use Rattle.records.specs.Refusals.{numberOf}

@@ -15,8 +15,7 @@ use lib.ListN.{getD, length}
 use Rattle.sessions.specs.Set.{has}
 use Rattle.sessions.proofs.Members.{has-lt}
 use Rattle.sessions.proofs.Counts.{ones-zero}
-use Rattle.sessions.proofs.Operations.{has-without}
-use Rattle.sessions.proofs.Operations.{has-and}
+use Rattle.sessions.proofs.Operations.{has-without, has-and}
 use Rattle.fairness.specs.Figure1.{Net, leftAt, loadAt, net, openAt}
 use Rattle.fairness.specs.Sum.{part, sum}
 use Rattle.fairness.proofs.Denominators.{SmallDenominator, small-32, small-step}

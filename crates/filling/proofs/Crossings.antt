@@ -11,8 +11,7 @@ use lib.Dec.{eqb}
 use lib.ListN.{getD, getD-replicate, length, length-set, replicate, set}
 use lib.Seq.{getD-set-other, getD-set-same}
 use Rattle.sessions.specs.Set.{cut, has, put}
-use Rattle.sessions.proofs.Members.{has-cut-other, has-cut-same, has-put-other, has-put-same, has-zero, put-lt}
-use Rattle.sessions.proofs.Members.{put-put}
+use Rattle.sessions.proofs.Members.{has-cut-other, has-cut-same, has-put-other, has-put-same, has-zero, put-lt, put-put}
 use Rattle.fairness.specs.Figure1.{any}
 use Rattle.fairness.specs.Sum.{part}
 use Rattle.fairness.proofs.Anys.{any-next}

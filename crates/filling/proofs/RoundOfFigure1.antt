@@ -15,10 +15,8 @@ use lib.ListN.{getD}
 use Rattle.sessions.specs.Set.{has}
 use Rattle.sessions.proofs.Members.{has-lt, has-or-not, has-pos}
 use Rattle.sessions.proofs.Counts.{ones-zero}
-use Rattle.sessions.proofs.Operations.{has-without}
-use Rattle.sessions.proofs.Walks.{ones-some}
-use Rattle.sessions.proofs.Operations.{ones-two}
-use Rattle.sessions.proofs.Walks.{low-has, low-lt}
+use Rattle.sessions.proofs.Operations.{has-without, ones-two}
+use Rattle.sessions.proofs.Walks.{ones-some, low-has, low-lt}
 use Rattle.fairness.specs.Figure1.{Net, leftAt, net, openAt}
 use Rattle.fairness.specs.Sum.{part}
 use Rattle.fairness.proofs.Denominators.{small-32}
@@ -33,8 +31,7 @@ use Rattle.filling.specs.OneRound.{RatesAfter, Running, fixedIn, rateAft
 use Rattle.filling.specs.SmallestShare.{GivenAmong, limitsOf, partsLimit, roomOf, wordOf}
 use Rattle.filling.specs.declared.Fill.{Fill}
 use Rattle.filling.specs.declared.Given.{Given}
-use Rattle.filling.proofs.OpenSessions.{T-not-one, T-one, few, is-member, left-is, member, open-T, open-is}
-use Rattle.filling.proofs.OpenSessions.{room-link, word-link, word-lt, word-open}
+use Rattle.filling.proofs.OpenSessions.{T-not-one, T-one, few, is-member, left-is, member, open-T, open-is, room-link, word-link, word-lt, word-open}
 
 -- the sessions that are open after a round
 abbrev pub openAfter : ℕ → Given → ℕ

@@ -1,4 +1,4 @@
--- Rates: when a fraction is one, how two compare, and what sums and shares come to. Follows 01, "Fractions" and "The direct calculation".
+-- Rates: when a fraction is one, how two compare, and what sums and shares come to, also in 01's number and values. Follows 01, "Fractions" and "The direct calculation".
 -- Answers are in lowest terms, so two answers of one value are equal; `Same`, `Le` and `Lt` speak of the values.
 -- Assumes nothing: definitions.
 use mathlib.Core.Path.{_≡_}

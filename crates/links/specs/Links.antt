@@ -1,4 +1,4 @@
--- A link with its entries: its words R and F, the sum of F, its rate B, comparisons with B, and sets of its sessions.
+-- A link with its entries: its words R and F, the sum of F, its rate B (also in 01's number and values), comparisons with B, and sets of its sessions.
 -- Follows 001, section III, and 01, "The tasks".
 -- Assumes nothing: definitions.
 use mathlib.Core.Bool.{Bool, cond, false, not, true, _&&_, _||_}

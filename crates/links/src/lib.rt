@@ -16,7 +16,7 @@ pub use sums::is_past_c;
 pub use sums::sum_of_f;
 ghost use mathlib.Core.Bool.{cond};
 ghost use mathlib.Core.Path.{_≡_};
-ghost use Prim.Native.Nat.{ℕ, _≤_, _<_};
+ghost use Prim.Native.Nat.{_<_};
 ghost use Rattle.fractions.specs.Fraction.{Sized, maxRate};
 ghost use Rattle.sessions.specs.Set.{put};
 ghost use Rattle.links.specs.Links.{BoundSized, Rates, WantedSized, allAtB, holds, isIdle, meetsOf, thoseOf, waitingOf, withEntry, withMu, withWords};

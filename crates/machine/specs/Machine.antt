@@ -14,7 +14,6 @@ use Rattle.events.specs.Events.{Step, eventOf, refusing}
 use Rattle.handed.specs.Handed.{passes14Of}
 use Rattle.handed.specs.Passes.{Passes}
 use Rattle.records.specs.declared.Call.the-variants as call
-use Rattle.records.specs.declared.End.{End}
 use Rattle.records.specs.declared.End.the-variants as end
 use Rattle.records.specs.declared.Read.{Read}
 use Rattle.records.specs.declared.Read.the-variants as read

@@ -6,7 +6,7 @@ use records::Read;
 use records::Refusal;
 use records::Verdict;
 ghost use mathlib.Core.Path.{_≡_};
-ghost use Prim.Native.Nat.{ℕ, _≤_, _<_};
+ghost use Prim.Native.Nat.{_<_};
 ghost use lib.ListN.{length};
 ghost use Rattle.events.specs.Events.{ended};
 ghost use Rattle.records.specs.Run.{saidOf};

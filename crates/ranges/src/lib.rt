@@ -16,7 +16,7 @@ pub fn link_fits(t: &[u64; 9153], e: usize) -> bool
     ensures { λ r. ⌜ r ≡ linkFits (now (t .entry)) e ⌝ }
 {
     let a = e * 3;
-    if 1000000 < t[a] {
+    if Rate::MAX < t[a] {
         return false;
     }
     if 4294967295 < t[a + 1] {
@@ -77,10 +77,10 @@ fn numbers_fit(b: [u64; 8]) -> bool
     if b[1] == 0 {
         return false;
     }
-    if 1000000 < b[1] {
+    if Rate::MAX < b[1] {
         return false;
     }
-    if 1000000 < b[2] {
+    if Rate::MAX < b[2] {
         return false;
     }
     b[4] <= 2

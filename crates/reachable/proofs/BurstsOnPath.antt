@@ -1,4 +1,4 @@
--- A burst goes to sessions whose paths have the link, so `onPathOf` (events/specs/Sending.antt) leaves none of them out: in every table that passes the
+-- A burst goes to sessions whose paths have the link, so `onPathOf` (sending/specs/Sending.antt) leaves none of them out: in every table that passes the
 -- test of refusal 14, and so in every table that is reached.
 -- Assumes nothing.
 use mathlib.Core.Bool.{true}

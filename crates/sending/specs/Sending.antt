@@ -1,4 +1,5 @@
--- What a step sends (01, "The tasks"): packets go to the end of the list in order of sending, each to the next hop on its way. w are the words.
+-- What a step sends, and whose turn it is (01, "The tasks"): packets go to the end of the list in order of sending, each to the next hop on its way.
+-- w are the words.
 -- Assumes nothing: definitions.
 use mathlib.Core.Bool.{Bool, cond, not, _&&_}
 use mathlib.Core.List.{List}
@@ -46,8 +47,8 @@ unfoldable pub sendAllOf : List ℕ → ℕ → Burst → ℕ → List ℕ
 sendAllOf w e b to = walk (sendUpOf e b) w (members to)
 
 -- the sessions of a set whose path has link e: to no other can link e send. In a table that passes the test of refusal 14 all of them have it
--- (`passes-burst-on-path`); an entry off its session's path can come about only from a handed table with a Join and no Leave behind it of a session that has
--- left
+-- (`passes-burst-on-path`); an entry off its session's path can come about only from a handed table with a Join and no Leave behind it of a session
+-- that has left
 abbrev pub addOnPath : List ℕ → ℕ → ℕ → ℕ → ℕ
 addOnPath w e a r = cond (eqb (hopOf w r e) 0) a (put r a)
 

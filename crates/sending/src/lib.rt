@@ -4,7 +4,7 @@ use tasks::Kind;
 use tasks::Onward;
 use tasks::Packet;
 ghost use mathlib.Core.Path.{_≡_};
-ghost use Prim.Native.Nat.{ℕ, _≤_, _<_};
+ghost use Prim.Native.Nat.{_≤_, _<_};
 ghost use Rattle.sending.specs.Sending.{addOnPath, burstKind, inTurnOf, nextHop, noneOf, onPathOf, oneIf, sameLane, sendAllOf, sendOnOf, sendUpOf, sentFrom};
 
 // The hop after h.

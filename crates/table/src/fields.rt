@@ -5,8 +5,7 @@ use links::Mu;
 use tasks::Eta;
 use tasks::Tau;
 ghost use mathlib.Core.Path.{_≡_};
-ghost use Prim.Native.Nat.{_+_, _≤_, _<_};
-ghost use lib.ListN.{length};
+ghost use Prim.Native.Nat.{_≤_};
 ghost use Rattle.table.specs.Words.{blockAt, putBlock};
 ghost use Rattle.table.specs.Codes.{bitOf, etaCode, etaOf, fieldOf, muCode, muOf, tauCode, tauOf, toldCode, toldOf, toldRate};
 

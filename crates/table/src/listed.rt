@@ -11,8 +11,7 @@ use fractions::Rate;
 use tasks::Kind;
 use tasks::Packet;
 ghost use mathlib.Core.Path.{_≡_};
-ghost use Prim.Native.Nat.{_+_, _≤_, _<_};
-ghost use lib.ListN.{length};
+ghost use Prim.Native.Nat.{_<_};
 ghost use Rattle.table.specs.Words.{appended, countOf, kindOf, packetFrom, packetOf, packetWords, putCount, putPacket, removed};
 
 fn kind_of(b: [u64; 8]) -> Kind

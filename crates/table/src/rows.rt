@@ -8,8 +8,8 @@ use links::Link;
 use links::Mu;
 use links::Place;
 ghost use mathlib.Core.Path.{_≡_};
-ghost use Prim.Native.Nat.{_+_, _≤_, _<_};
-ghost use lib.ListN.{length, replicate};
+ghost use Prim.Native.Nat.{_<_};
+ghost use lib.ListN.{length};
 ghost use Rattle.table.specs.Words.{entryOf, linkOf, placeOf, putEntry, putLink, putPlace, putRow, rowOf};
 
 pub fn link_at(t: &[u64; 9153], e: usize) -> Link
@@ -17,7 +17,7 @@ pub fn link_at(t: &[u64; 9153], e: usize) -> Link
     ensures { λ r. ⌜ r ≡ linkOf (now (t .entry)) e ⌝ }
 {
     let a = e * 3;
-    let capacity = field(t[a], 1000000);
+    let capacity = field(t[a], Rate::MAX);
     let r = field(t[a + 1], 4294967295);
     let f = field(t[a + 2], 4294967295);
     Link {

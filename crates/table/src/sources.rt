@@ -20,8 +20,8 @@ ghost use Rattle.table.specs.Words.{blockAt, headWords, hopOf, hopsOf, p
 fn source_from(b: [u64; 8], c: [u64; 8]) -> Source
     ensures { λ r. ⌜ r ≡ sourceFrom b c ⌝ }
 {
-    let access = field(b[1], 1000000);
-    let maximum = field(b[2], 1000000);
+    let access = field(b[1], Rate::MAX);
+    let maximum = field(b[2], Rate::MAX);
     let mu = mu_of(b[4]);
     let rate = Rate::kept(c[0], c[1]);
     let told = told_of(b[7], c[2], c[3]);

@@ -1,12 +1,11 @@
 -- `calculation::calculate` meets its contract: refusals 15 and 1, then the records, then the answer.
 -- Assumes nothing.
 use borrow.Author.Needs.{needs}
-use mathlib.Core.Path.{_≡_, sym, ap, _∙_}
+use mathlib.Core.Path.{_≡_, sym, ap, _∙_, subst}
 use Prim.Native.Nat.{ℕ, _-_}
 use denote.Ref.{now}
 use native.Mathlib.Omega.{arith}
 use mathlib.Core.List.{List}
-use mathlib.Core.Path.{subst}
 use Rattle.records.specs.declared.End.{End}
 use Rattle.declarations.specs.Declaring.{declarationsOf}
 use Rattle.declarations.specs.declared.Declarations.{Declarations}

@@ -3,9 +3,8 @@
 use mathlib.Core.Path.{_≡_, refl, sym, _∙_}
 use Prim.Native.Nat.{_-_, _^_, _<_}
 use denote.Ref.{now}
-use lib.ListN.{getD, length, set}
+use lib.ListN.{getD, length, set, length-set}
 use native.Mathlib.Omega.{arith}
-use lib.ListN.{length-set}
 use Rattle.sessions.specs.Set.{cut, membersFrom, walk}
 use Rattle.sessions.proofs.Walks.{next-below, next-less, walk-end, walk-turn}
 use Rattle.calculation.specs.Calculating.{written}

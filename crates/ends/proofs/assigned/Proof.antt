@@ -1,15 +1,12 @@
 -- `ends::assigned` meets its contract, whether the rate is D or not.
 -- Assumes nothing.
 use mathlib.Core.Bool.{false, true}
-use mathlib.Core.Path.{_≡_}
+use mathlib.Core.Path.{_≡_, ap, subst, sym, _∙_}
 use Rattle.fractions.specs.declared.Rate.{Rate}
-use Rattle.fractions.specs.Fraction.{sameOf}
+use Rattle.fractions.specs.Fraction.{sameOf, Sized, maxRate}
 use Rattle.ends.specs.Figure3.{assignedOf, atD}
-use mathlib.Core.Path.{ap, subst, sym, _∙_}
-use Rattle.fractions.specs.Fraction.{Sized, maxRate}
 use Rattle.ends.proofs.OwnLimits.{limit-sized}
 use Rattle.links.proofs.Sizes.{to-limit}
-use Rattle.ends.specs.Figure3.{assignedOf}
 use borrow.Author.Needs.{needs}
 use Rattle.ends.proofs.assigned.Statement.{statement}
 use Rattle.ends.proofs.assigned.Tie as tie

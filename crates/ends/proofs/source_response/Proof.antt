@@ -3,7 +3,6 @@
 use Rattle.ends.proofs.Responses.{again-bottleneck, again-response, taken-bottleneck, taken-response}
 use Rattle.ends.specs.Figure3.{Ready, announcedOf, sourceResponseOf}
 use mathlib.Core.Path.{ap, subst, sym, _∙_}
-use Rattle.ends.specs.Figure3.{Ready, sourceResponseOf}
 use borrow.Author.Needs.{needs}
 use Rattle.ends.proofs.source_response.Statement.{statement}
 use Rattle.ends.proofs.source_response.Tie as tie

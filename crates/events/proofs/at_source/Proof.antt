@@ -2,9 +2,8 @@
 -- Assumes nothing.
 use mathlib.Core.Path.{_≡_, ap, subst, sym, _∙_}
 use denote.Ref.{now}
-use Rattle.ends.specs.Figure3.{Ready}
+use Rattle.ends.specs.Figure3.{Ready, sourceStepOf}
 use Rattle.events.proofs.Needs.{kind-sized, ready}
-use Rattle.ends.specs.Figure3.{sourceStepOf}
 use Rattle.events.proofs.Steps.{source-done, source-many}
 use borrow.Author.Needs.{needs}
 use Rattle.events.proofs.at_source.Statement.{statement}

@@ -6,10 +6,9 @@ use denote.Ref.{now}
 use Rattle.fractions.proofs.Cases.{not-false, not-true}
 use Rattle.records.specs.Format.{all}
 use Rattle.records.proofs.Alls.{all-fails, all-next, all-none}
-use mathlib.Core.Bool.{Bool, not, true}
+use mathlib.Core.Bool.{Bool, not, true, _&&_}
 use Prim.Native.Nat.{ℕ, _-_, _+_, _≤_}
 use lib.Dec.{eqb, ltb}
-use mathlib.Core.Bool.{_&&_}
 use lib.ListN.{getD}
 use Rattle.records.specs.Limits.{linkLimit}
 use Rattle.events.specs.Events.{pathDeclaredIn}

@@ -1,7 +1,6 @@
 -- `links::meets` meets its contract, question by question.
 -- Assumes nothing.
-use mathlib.Core.Path.{subst}
-use mathlib.Core.Path.{ap}
+use mathlib.Core.Path.{subst, ap}
 use mathlib.Core.Bool.{not}
 use Rattle.links.specs.Links.{WantedSized}
 use Rattle.links.proofs.Sizes.{to-limit}

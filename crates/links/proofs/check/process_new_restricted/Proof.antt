@@ -1,11 +1,10 @@
 -- `links::process_new_restricted` meets its contract: the check, those above B, and the link where they wait.
 -- Assumes nothing.
-use Rattle.links.specs.Links.{BoundSized, Rates}
+use Rattle.links.specs.Links.{BoundSized, Rates, B}
 use mathlib.Core.Path.{_≡_, ap, subst, sym, _∙_}
 use Rattle.links.specs.declared.Bound.{Bound}
 use Rattle.links.specs.declared.Checked.{Checked}
 use Rattle.links.specs.FCheck.{checkOf, processOf}
-use Rattle.links.specs.Links.{B, BoundSized, Rates}
 use Rattle.links.proofs.Checks.{processed-is}
 use Rattle.links.proofs.Sizes.{B-sized, check-workable}
 use borrow.Author.Needs.{needs}

@@ -1,13 +1,12 @@
 -- `links::bound_from` meets its contract, whatever F comes to.
 -- Assumes nothing.
-use mathlib.Core.Path.{subst}
+use mathlib.Core.Path.{subst, ap, sym, _∙_}
 use native.Mathlib.Omega.{arith}
 use Prim.Native.Nat.{suc}
 use Rattle.fractions.proofs.Ranges.{sized-more}
 use Rattle.links.specs.Links.{TotalSized, asBound, boundOf}
 use Rattle.links.proofs.Bounds.{bound-none, bound-past, bound-past-none, bound-some}
 use Rattle.links.specs.declared.Bound.the-variants as bound
-use mathlib.Core.Path.{ap, sym, _∙_}
 use borrow.Author.Needs.{needs}
 use Rattle.links.proofs.sums.bound_from.Statement.{statement}
 use Rattle.links.proofs.sums.bound_from.Tie as tie

@@ -1,7 +1,6 @@
 -- `links::more` meets its contract: a rate more, or the same that it was.
 -- Assumes nothing.
-use mathlib.Core.Path.{subst}
-use mathlib.Core.Path.{sym}
+use mathlib.Core.Path.{subst, sym}
 use Rattle.fractions.proofs.Ranges.{sized-more}
 use Rattle.links.specs.Links.{SumSized, TotalSized, moreOf}
 use Rattle.links.proofs.Sizes.{to-limit, two-sized}

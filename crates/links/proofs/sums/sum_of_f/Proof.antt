@@ -3,7 +3,6 @@
 use Rattle.links.specs.declared.Total.the-variants as total
 use mathlib.Core.Path.{_≡_, refl, sym, subst, _∙_}
 use Rattle.fractions.specs.Fraction.{Sized}
-use mathlib.Core.Path.{_≡_, refl, sym, _∙_}
 use native.Mathlib.Omega.{arith}
 use Prim.Native.Nat.{_^_, _<_}
 use lib.Dec.{lit≤}

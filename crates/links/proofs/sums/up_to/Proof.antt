@@ -1,16 +1,13 @@
 -- `links::up_to` meets its contract: the test is that of two rates.
 -- Assumes nothing.
 use mathlib.Core.Bool.{true, false}
-use mathlib.Core.Path.{_≡_, _∙_}
-use Rattle.fractions.specs.Fraction.{leOf, wholeOf}
-use mathlib.Core.Path.{subst}
+use mathlib.Core.Path.{_≡_, _∙_, subst, sym}
+use Rattle.fractions.specs.Fraction.{leOf, wholeOf, Sized, limit, maxRate}
 use lib.Dec.{lit≤}
-use Rattle.fractions.specs.Fraction.{Sized, limit, maxRate}
 use Rattle.fractions.specs.declared.Rate.{Rate}
 use Rattle.fractions.proofs.Ranges.{whole-sized}
 use Rattle.links.specs.Links.{SumSized, uptoOf}
 use Rattle.links.proofs.Sizes.{to-limit}
-use mathlib.Core.Path.{sym}
 use borrow.Author.Needs.{needs}
 use Rattle.links.proofs.sums.up_to.Statement.{statement}
 use Rattle.links.proofs.sums.up_to.Tie as tie
