@@ -23,7 +23,7 @@ use Rattle.records.specs.Format.{all}
 use Rattle.records.proofs.Alls.{all-at, all-below, all-fails}
 use Rattle.records.proofs.Somes.{all-some, clash, implied, implies}
 use Rattle.sessions.specs.Set.{hasOf}
-use Rattle.sessions.proofs.Members.{has-zero, is-out, same-members}
+use Rattle.sessions.proofs.Members.{has-zero, nobody}
 use Rattle.table.specs.Words.{hopsOf, placeOf, sourceOf, stopOf}
 use Rattle.conditions.specs.Conditions.{AgreesAt, Limited, Rated, Restricted, Rests, SumAtMostC, ToldItsRate}
 use Rattle.conditions.specs.Settled.{agreesAt, isAtMostC, isLimited, isTold, limitOf, linkRated, memberRated, membersRated, pathAgrees, ratedInF, ratedInR, restrictedAt, restrictedSomewhere, sessionLimited, sessionRests, sessionTold, stopAgrees, sumRated}
@@ -76,10 +76,6 @@ rests-test w s f =
 
 -- (c) OF ONE LINK -----------------------------------------------------------------------------------------------------
 
--- no session is a member exactly where the word is 0
-none-zero : (w : ℕ) → w < 2 ^ 32 → ((s : ℕ) → s < 32 → hasOf s w ≡ false) → w ≡ 0
-none-zero w h f = same-members 32 w 0 h (omega arith) (λ s l. is-out w s (f s l) ∙ sym (has-zero s))
-
 zero-none : (w s : ℕ) → w ≡ 0 → hasOf s w ≡ false
 zero-none w s e = rw (e, has-zero s)
 
@@ -106,7 +102,7 @@ rated-means w e o k h =
           λ s l t.
           implied (inF p s) (belowB (B p) (rateAt p s)) (and-both (ratedInR (B p) p s) (ratedInF (B p) p s) (all-at 32 (memberRated (B p) p) s (a .0) l) .1) t;
       unrestricted =
-          λ f. at-most-means p o (implied (eqb (R p) 0) (isAtMostC (sumOf p)) (a .1) (eq-eqb (R p) 0 (none-zero (R p) k f)));
+          λ f. at-most-means p o (implied (eqb (R p) 0) (isAtMostC (sumOf p)) (a .1) (eq-eqb (R p) 0 (nobody 32 (R p) k f)));
     }
 
 pub rated-test : (w : List ℕ) (e : ℕ) → Rated (placeOf w e) → linkRated w e ≡ true

@@ -1,15 +1,20 @@
-// 01, "Settled: five conditions": whether a table is settled.
+// 01, "Settled: five conditions": whether a table is settled. Each session and each link is looked at once, and of a link only the entries of the
+// sessions that it holds.
 use ends::Told;
 use fractions::Rate;
 use links::Bound;
-use links::Place;
 use links::Total;
+ghost use mathlib.Core.Bool.{not, _&&_, _||_};
 ghost use mathlib.Core.Path.{_≡_};
-ghost use Prim.Native.Nat.{_<_};
-ghost use Rattle.fractions.specs.Fraction.{Sized, maxRate};
-ghost use Rattle.links.specs.Links.{BoundSized, Rates, Workable};
+ghost use Prim.Native.Nat.{_≤_, _<_};
+ghost use Rattle.fractions.specs.Fraction.{Sized, leOf, maxRate, sameOf, wholeOf};
+ghost use Rattle.links.specs.Links.{BoundSized, belowB, equalsB};
+ghost use Rattle.records.specs.Format.{all};
+ghost use Rattle.sessions.specs.Set.{hasOf};
 ghost use Rattle.table.specs.Values.{ToldInRange};
-ghost use Rattle.conditions.specs.Settled.{agreesAt, conditionA, conditionB, conditionC, conditionD, conditionE, isAtMostC, isLimited, isTold, limitOf, linkRated, memberRated, membersRated, pathAgrees, ratedInF, ratedInR, restrictedAt, restrictedSomewhere, sessionLimited, sessionRests, sessionTold, settledOf, stopAgrees, sumRated};
+ghost use Rattle.table.specs.Words.{placeOf, sourceOf};
+ghost use Rattle.conditions.specs.Settled.{agreesAt, conditionA, conditionC, isAtMostC, isTold, linkRated, membersRated, pathAgrees, settledOf};
+ghost use Rattle.conditions.specs.OneSession.{RestrictedIn, sessionSettles};
 
 // (a) NO PACKET IS IN FLIGHT ------------------------------------------------------------------------------------------
 
@@ -22,15 +27,17 @@ fn condition_a(t: &[u64; 9153]) -> bool
 
 // (b) EVERY ACTIVE SESSION IS IDLE, WITH ONE SAME RATE, AT ITS SOURCE AND AT EVERY LINK OF ITS PATH -------------------
 
-// The link holds session s, idle, with rate x.
-fn agrees_at(x: Rate, p: Place, s: u32) -> bool
-    requires { ⌜ Sized maxRate x × Rates (p .entries) × (s < 32) ⌝ }
-    ensures { λ r. ⌜ r ≡ agreesAt x p s ⌝ }
+// Link e holds session s, idle, with rate x.
+fn agrees_at(t: &[u64; 9153], e: usize, s: usize, x: Rate) -> bool
+    requires { ⌜ (e < 64) × (s < 32) × Sized maxRate x ⌝ }
+    ensures { λ r. ⌜ r ≡ agreesAt x (placeOf (now (t .entry)) e) s ⌝ }
 {
-    if !links::holds(p, s) {
+    let l = table::link_at(t, e);
+    let held = l.r | l.f;
+    if !sessions::has(held, s as u32) {
         return false;
     }
-    let y = p.entries[s as usize];
+    let y = table::entry_in(t, e, s);
     let m = y.mu;
     if !links::is_idle(m) {
         return false;
@@ -38,54 +45,15 @@ fn agrees_at(x: Rate, p: Place, s: u32) -> bool
     y.rate.same(x)
 }
 
-// The link at place i of the path, with the source's rate.
-fn stop_agrees(t: &[u64; 9153], s: usize, i: usize) -> bool
-    requires { ⌜ (s < 32) × (i < 8) ⌝ }
-    ensures { λ r. ⌜ r ≡ stopAgrees (now (t .entry)) s i ⌝ }
-{
-    let z = table::source_at(t, s);
-    let x = z.rate;
-    let e = table::stop_at(t, s, i);
-    let p = table::place_at(t, e);
-    agrees_at(x, p, s as u32)
-}
-
-fn path_agrees(t: &[u64; 9153], s: usize) -> bool
-    requires { ⌜ s < 32 ⌝ }
+// So do the links of its path, with the source's rate.
+fn path_agrees(t: &[u64; 9153], s: usize, x: Rate) -> bool
+    requires { ⌜ (s < 32) × (x ≡ sourceOf (now t) s .rate) ⌝ }
     ensures { λ r. ⌜ r ≡ pathAgrees (now (t .entry)) s ⌝ }
 {
     let n = table::hops_at(t, s);
     for i in 0..n {
-        if !stop_agrees(t, s, i) {
-            return false;
-        }
-    }
-    true
-}
-
-fn session_rests(t: &[u64; 9153], s: usize) -> bool
-    requires { ⌜ s < 32 ⌝ }
-    ensures { λ r. ⌜ r ≡ sessionRests (now (t .entry)) s ⌝ }
-{
-    let z = table::source_at(t, s);
-    if !z.active {
-        return true;
-    }
-    let m = z.mu;
-    if !links::is_idle(m) {
-        return false;
-    }
-    if z.updated {
-        return false;
-    }
-    path_agrees(t, s)
-}
-
-fn condition_b(t: &[u64; 9153]) -> bool
-    ensures { λ r. ⌜ r ≡ conditionB (now (t .entry)) ⌝ }
-{
-    for s in 0..32usize {
-        if !session_rests(t, s) {
+        let e = table::stop_at(t, s, i);
+        if !agrees_at(t, e, s, x) {
             return false;
         }
     }
@@ -94,46 +62,45 @@ fn condition_b(t: &[u64; 9153]) -> bool
 
 // (c) EVERY MEMBER OF R HAS RATE B, EVERY MEMBER OF F LESS, AND IF R IS EMPTY THE SUM OF F IS AT MOST C ---------------
 
-fn rated_in_r(b: Bound, p: Place, s: u32) -> bool
-    requires { ⌜ BoundSized b × Rates (p .entries) × (s < 32) ⌝ }
-    ensures { λ r. ⌜ r ≡ ratedInR b p s ⌝ }
+fn rated_in_r(b: Bound, r: u32, s: u32, x: Rate) -> bool
+    requires { ⌜ BoundSized b × (s < 32) × Sized maxRate x ⌝ }
+    ensures { λ v. ⌜ v ≡ (not (hasOf s r) || equalsB b x) ⌝ }
 {
-    if !sessions::has(p.link.r, s) {
+    if !sessions::has(r, s) {
         return true;
     }
-    let y = p.entries[s as usize];
-    links::equals_b(b, y.rate)
+    links::equals_b(b, x)
 }
 
-fn rated_in_f(b: Bound, p: Place, s: u32) -> bool
-    requires { ⌜ BoundSized b × Rates (p .entries) × (s < 32) ⌝ }
-    ensures { λ r. ⌜ r ≡ ratedInF b p s ⌝ }
+fn rated_in_f(b: Bound, f: u32, s: u32, x: Rate) -> bool
+    requires { ⌜ BoundSized b × (s < 32) × Sized maxRate x ⌝ }
+    ensures { λ v. ⌜ v ≡ (not (hasOf s f) || belowB b x) ⌝ }
 {
-    if !sessions::has(p.link.f, s) {
+    if !sessions::has(f, s) {
         return true;
     }
-    let y = p.entries[s as usize];
-    links::below_b(b, y.rate)
+    links::below_b(b, x)
 }
 
-fn member_rated(b: Bound, p: Place, s: u32) -> bool
-    requires { ⌜ BoundSized b × Rates (p .entries) × (s < 32) ⌝ }
-    ensures { λ r. ⌜ r ≡ memberRated b p s ⌝ }
+// The sessions that link e holds, by rising number.
+fn members_rated(t: &[u64; 9153], e: usize, b: Bound) -> bool
+    requires { ⌜ (e < 64) × BoundSized b ⌝ }
+    ensures { λ r. ⌜ r ≡ membersRated b (placeOf (now (t .entry)) e) ⌝ }
 {
-    if !rated_in_r(b, p, s) {
-        return false;
-    }
-    rated_in_f(b, p, s)
-}
-
-fn members_rated(b: Bound, p: Place) -> bool
-    requires { ⌜ BoundSized b × Rates (p .entries) ⌝ }
-    ensures { λ r. ⌜ r ≡ membersRated b p ⌝ }
-{
-    for s in 0..32u32 {
-        if !member_rated(b, p, s) {
+    let l = table::link_at(t, e);
+    let r = l.r;
+    let f = l.f;
+    let mut left = r | f;
+    while left != 0 {
+        let s = sessions::next(left);
+        let y = table::entry_in(t, e, s as usize);
+        if !rated_in_r(b, r, s, y.rate) {
             return false;
         }
+        if !rated_in_f(b, f, s, y.rate) {
+            return false;
+        }
+        left = sessions::cut(left, s);
     }
     true
 }
@@ -148,27 +115,25 @@ fn is_at_most_c(total: Total) -> bool
     }
 }
 
-fn sum_rated(p: Place) -> bool
-    requires { ⌜ Workable p ⌝ }
-    ensures { λ r. ⌜ r ≡ sumRated p ⌝ }
-{
-    if p.link.r != 0 {
-        return true;
-    }
-    let total = links::sum_of_f(p);
-    is_at_most_c(total)
-}
-
+// Of a link that holds nobody there is nothing to ask.
 fn link_rated(t: &[u64; 9153], e: usize) -> bool
     requires { ⌜ e < 64 ⌝ }
     ensures { λ r. ⌜ r ≡ linkRated (now (t .entry)) e ⌝ }
 {
-    let p = table::place_at(t, e);
-    let b = links::bottleneck_rate(p);
-    if !members_rated(b, p) {
+    let l = table::link_at(t, e);
+    let held = l.r | l.f;
+    if held == 0 {
+        return true;
+    }
+    let total = totals::sum_at(t, e);
+    let b = links::bound_from(l.capacity, sessions::size(l.r), total);
+    if !members_rated(t, e, b) {
         return false;
     }
-    sum_rated(p)
+    if l.r != 0 {
+        return true;
+    }
+    is_at_most_c(total)
 }
 
 fn condition_c(t: &[u64; 9153]) -> bool
@@ -184,74 +149,31 @@ fn condition_c(t: &[u64; 9153]) -> bool
 
 // (d) EACH SESSION IS IN R AT SOME LINK OR ITS RATE EQUALS D, AND NO RATE EXCEEDS D -----------------------------------
 
-fn restricted_at(t: &[u64; 9153], s: usize, e: usize) -> bool
-    requires { ⌜ (s < 32) × (e < 64) ⌝ }
-    ensures { λ r. ⌜ r ≡ restrictedAt (now (t .entry)) s e ⌝ }
+// The sessions that are in R at some link.
+fn restricted(t: &[u64; 9153]) -> u32
+    ensures { λ r. ⌜ RestrictedIn (now (t .entry)) r ⌝ }
 {
-    let l = table::link_at(t, e);
-    sessions::has(l.r, s as u32)
-}
-
-fn restricted_somewhere(t: &[u64; 9153], s: usize) -> bool
-    requires { ⌜ s < 32 ⌝ }
-    ensures { λ r. ⌜ r ≡ restrictedSomewhere (now (t .entry)) s ⌝ }
-{
+    let mut some: u32 = 0;
     for e in 0..64usize {
-        if restricted_at(t, s, e) {
-            return true;
-        }
+        let l = table::link_at(t, e);
+        some = some | l.r;
     }
-    false
+    some
 }
 
-// The session's own limit D.
-fn limit_at(t: &[u64; 9153], s: usize) -> Rate
-    requires { ⌜ s < 32 ⌝ }
-    ensures { λ r. ⌜ r ≡ limitOf (now (t .entry)) s ⌝ }
+// A session of rate x and this own limit D, which is in R at some link, or not.
+fn is_limited(in_r: bool, x: Rate, limit: u64) -> bool
+    requires { ⌜ Sized maxRate x × (limit ≤ maxRate) ⌝ }
+    ensures { λ r. ⌜ r ≡ ((in_r || sameOf x (wholeOf limit)) && leOf x (wholeOf limit)) ⌝ }
 {
-    let z = table::source_at(t, s);
-    let d = declarations::own_limit(z.access, z.maximum);
-    Rate::whole(d)
-}
-
-fn is_limited(t: &[u64; 9153], s: usize) -> bool
-    requires { ⌜ s < 32 ⌝ }
-    ensures { λ r. ⌜ r ≡ isLimited (now (t .entry)) s ⌝ }
-{
-    if restricted_somewhere(t, s) {
-        return true;
+    let d = Rate::whole(limit);
+    if in_r {
+        return x.le(d);
     }
-    let z = table::source_at(t, s);
-    let x = z.rate;
-    let d = limit_at(t, s);
-    x.same(d)
-}
-
-fn session_limited(t: &[u64; 9153], s: usize) -> bool
-    requires { ⌜ s < 32 ⌝ }
-    ensures { λ r. ⌜ r ≡ sessionLimited (now (t .entry)) s ⌝ }
-{
-    let z = table::source_at(t, s);
-    if !z.active {
-        return true;
-    }
-    if !is_limited(t, s) {
+    if !x.same(d) {
         return false;
     }
-    let x = z.rate;
-    let d = limit_at(t, s);
     x.le(d)
-}
-
-fn condition_d(t: &[u64; 9153]) -> bool
-    ensures { λ r. ⌜ r ≡ conditionD (now (t .entry)) ⌝ }
-{
-    for s in 0..32usize {
-        if !session_limited(t, s) {
-            return false;
-        }
-    }
-    true
 }
 
 // (e) THE RATE EACH SOURCE LAST TOLD ITS SESSION IS THIS ONE ----------------------------------------------------------
@@ -266,31 +188,48 @@ fn is_told(told: Told, x: Rate) -> bool
     }
 }
 
-fn session_told(t: &[u64; 9153], s: usize) -> bool
-    requires { ⌜ s < 32 ⌝ }
-    ensures { λ r. ⌜ r ≡ sessionTold (now (t .entry)) s ⌝ }
+// ALL FIVE ------------------------------------------------------------------------------------------------------------
+
+// (b), (d) and (e) of one session.
+fn session_settles(t: &[u64; 9153], s: usize, some: u32) -> bool
+    requires { ⌜ (s < 32) × RestrictedIn (now t) some ⌝ }
+    ensures { λ r. ⌜ r ≡ sessionSettles (now (t .entry)) s ⌝ }
 {
-    let z = table::source_at(t, s);
-    if !z.active {
+    if !table::active_at(t, s) {
         return true;
     }
-    let last = z.told;
+    let z = table::source_at(t, s);
+    let m = z.mu;
+    if !links::is_idle(m) {
+        return false;
+    }
+    if z.updated {
+        return false;
+    }
     let x = z.rate;
+    if !path_agrees(t, s, x) {
+        return false;
+    }
+    let in_r = sessions::has(some, s as u32);
+    let limit = declarations::own_limit(z.access, z.maximum);
+    if !is_limited(in_r, x, limit) {
+        return false;
+    }
+    let last = z.told;
     is_told(last, x)
 }
 
-fn condition_e(t: &[u64; 9153]) -> bool
-    ensures { λ r. ⌜ r ≡ conditionE (now (t .entry)) ⌝ }
+fn sessions_settle(t: &[u64; 9153]) -> bool
+    ensures { λ r. ⌜ r ≡ all 32 (sessionSettles (now (t .entry))) ⌝ }
 {
+    let some = restricted(t);
     for s in 0..32usize {
-        if !session_told(t, s) {
+        if !session_settles(t, s, some) {
             return false;
         }
     }
     true
 }
-
-// ALL FIVE ------------------------------------------------------------------------------------------------------------
 
 // Whether the table is settled.
 pub fn is_settled(t: &[u64; 9153]) -> bool
@@ -299,14 +238,8 @@ pub fn is_settled(t: &[u64; 9153]) -> bool
     if !condition_a(t) {
         return false;
     }
-    if !condition_b(t) {
+    if !sessions_settle(t) {
         return false;
     }
-    if !condition_c(t) {
-        return false;
-    }
-    if !condition_d(t) {
-        return false;
-    }
-    condition_e(t)
+    condition_c(t)
 }

@@ -10,7 +10,7 @@ use Rattle.fractions.specs.declared.Rate.{Rate}
 use Rattle.fractions.specs.declared.Share.the-variants as share
 use Rattle.fractions.proofs.Cases.{chose-first, chose-second}
 use Rattle.fractions.proofs.Order.{same-trans}
-use Rattle.fractions.proofs.LowestTerms.{lowest-same, lowest-pos, lowest-lowest, lowest-cong, lowest-id, den-divides, whole-lowest}
+use Rattle.fractions.proofs.LowestTerms.{lowest-den, lowest-same, lowest-pos, lowest-lowest, lowest-cong, lowest-id, den-divides, whole-lowest}
 use Rattle.fractions.proofs.Additions.{add-comm, add-cong}
 
 room : (c d n k : ℕ) → 0 < k → c * d - n ≤ c * d * k
@@ -53,6 +53,13 @@ share-den c t k N ht hk p =
     dvd-trans _
     (den-divides (c * t .den - t .num) (t .den * k) (share-lowest c t k ht hk) (lowest-same _ _))
     (mul-dvd-mul-right _ p k)
+
+-- and is no greater than before it was put into lowest terms
+pub share-den-most : (c : ℕ) (t : Rate) (k : ℕ) → 0 < t .den → 0 < k → (eachOf c t k) .den ≤ t .den * k
+unfolding eachOf
+share-den-most c t k ht hk =
+    let N = c * t .den - t .num in
+    lowest-den N (t .den * k) (mul-pos ht hk) (share-lowest c t k ht hk) (lowest-same N (t .den * k))
 
 -- a share that comes back as a rate is the share, no more than the capacity
 pub share-within : (c : ℕ) (t : Rate) (k : ℕ) {s : Rate} → 0 < t .den → 0 < k → shareOf c t k ≡ share.Rate s

@@ -2,5 +2,8 @@
 pub mod Ways
 pub mod Clauses
 pub mod Passing
+pub mod OnceOver
+mod Stops
+mod Holding
 pub mod SumsAreRates
 pub mod EmptyPasses

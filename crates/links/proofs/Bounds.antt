@@ -1,13 +1,20 @@
--- B by how many members R has: none, or some.
+-- The sum of an empty F, and B by how many members R has: none, or some.
 -- Assumes nothing.
 use mathlib.Core.Path.{_≡_, refl}
 use Prim.Native.Nat.{ℕ, zero, suc, _<_}
 use native.Mathlib.Omega.{arith}
 use Rattle.fractions.specs.declared.Rate.{Rate}
 use Rattle.fractions.specs.Fraction.{shareOf, zeroOf}
+use Rattle.sessions.specs.Set.{walk}
+use Rattle.sessions.proofs.Walks.{no-members}
 use Rattle.links.specs.declared.Bound.the-variants as bound
+use Rattle.links.specs.declared.Place.{Place}
 use Rattle.links.specs.declared.Total.the-variants as total
-use Rattle.links.specs.Links.{asBound, boundOf}
+use Rattle.links.specs.Links.{F, asBound, boundOf, sumOf}
+
+pub sum-none : (p : Place) → F p ≡ 0 → sumOf p ≡ total.Rate zeroOf
+unfolding sumOf walk
+sum-none p h = rw (no-members 32 (F p) h)
 
 module _ (c k : ℕ) where
   pub bound-none : (y : Rate) → k ≡ 0 → boundOf c k (total.Rate y) ≡ bound.Above

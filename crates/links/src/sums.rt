@@ -29,9 +29,10 @@ fn up_to(capacity: u64, sum: Sum) -> Total
 }
 
 // A total with one rate more.
-fn more(capacity: u64, total: Total, x: Rate) -> Total
+pub fn more(capacity: u64, total: Total, x: Rate) -> Total
     requires { ⌜ (capacity ≤ maxRate) × TotalSized capacity total × Sized maxRate x ⌝ }
-    ensures { λ r. ⌜ r ≡ moreOf capacity total x ⌝ }
+    ensures exact { λ r. ⌜ r ≡ moreOf capacity total x ⌝ }
+    ensures said { λ r. ⌜ totalSaid r ≡ totalSaid (moreOf capacity total x) ⌝ }
 {
     match total {
         Total::Rate(y) => {
@@ -83,9 +84,10 @@ fn as_bound(share: Share) -> Bound
 }
 
 // B of a link of this capacity with so many members of R, whose F comes to a total.
-fn bound_from(capacity: u64, count: u32, total: Total) -> Bound
+pub fn bound_from(capacity: u64, count: u32, total: Total) -> Bound
     requires { ⌜ (capacity ≤ maxRate) × (count ≤ 32) × TotalSized capacity total ⌝ }
-    ensures { λ r. ⌜ r ≡ boundOf capacity count total ⌝ }
+    ensures exact { λ r. ⌜ r ≡ boundOf capacity count total ⌝ }
+    ensures said { λ r. ⌜ boundSaid r ≡ boundSaid (boundOf capacity count total) ⌝ }
 {
     match total {
         Total::Rate(y) => {

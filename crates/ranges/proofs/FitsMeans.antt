@@ -162,3 +162,15 @@ packet-fits-means w i h =
     let q = and-both (leb (getD b 1 0) 9) _ (p .1) in
     let k = and-both (leb (getD b 2 0) 1) _ (q .1) in
     record { session = r .session; hop = r .hop; kind = kind-means b (getD b 3 0) refl (k .1) }
+
+-- the rate of a source that fits is one
+pub source-is-rate : (w : List ℕ) (s : ℕ) → sourceFits w s ≡ true → isRateOf (frac (getD w (6336 + s * 24 + 8) 0) (getD w (6336 + s * 24 + 8 + 1) 0)) ≡ true
+unfolding sourceFits ratesFit blockAt
+source-is-rate w s h =
+    let b = blockAt w (6336 + s * 24) in
+    let c = blockAt w (6336 + s * 24 + 8) in
+    let t = getD w (6336 + s * 24 + 7) 0 in
+    let f = and-both (flagsFit b) (numbersFit b && (ratesFit t c && pathFits w s)) h in
+    let n = and-both (numbersFit b) (ratesFit t c && pathFits w s) (f .1) in
+    let r = and-both (ratesFit t c) (pathFits w s) (n .1) in
+    and-both (isRateOf (frac (getD c 0 0) (getD c 1 0))) (cond (eqb t 1) (isRateOf (frac (getD c 2 0) (getD c 3 0))) true) (r .0) .0

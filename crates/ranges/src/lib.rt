@@ -1,6 +1,9 @@
 // 01, refusal 14: the words in use of a table that is handed in are within their ranges, and their rates in lowest terms.
+ghost use mathlib.Core.Bool.{_&&_, true};
 ghost use mathlib.Core.Path.{_≡_};
 ghost use Prim.Native.Nat.{_≤_, _<_};
+ghost use lib.Dec.{eqb};
+ghost use Rattle.fractions.specs.Fraction.{frac, isRateOf};
 ghost use Rattle.ranges.specs.Ranges.{countFits, linkFits, entryFits, standingFits, flagsFit, numbersFit, ratesFit, stopsFit, pathFits, sourceFits, ratedFits, kindFits, wordsFit, packetFits};
 use fractions::Rate;
 
@@ -25,20 +28,40 @@ pub fn link_fits(t: &[u64; 9153], e: usize) -> bool
     t[a + 2] <= 4294967295
 }
 
-// The entry of session s at link e.
+// Whether x is n / d as it stands.
+fn is_pair(x: Rate, n: u64, d: u64) -> bool
+    ensures { λ r. ⌜ r ≡ (eqb n (x .num) && eqb d (x .den)) ⌝ }
+{
+    n == x.num && d == x.den
+}
+
+// Whether two words are a rate, where x is one: words that are x's are not put to the test again.
+fn is_rate_beside(x: Rate, n: u64, d: u64) -> bool
+    requires { ⌜ isRateOf x ≡ true ⌝ }
+    ensures { λ r. ⌜ r ≡ isRateOf (frac n d) ⌝ }
+{
+    if is_pair(x, n, d) {
+        return true;
+    }
+    let y = Rate { num: n, den: d };
+    y.is_rate()
+}
+
+// The entry of session s at link e, where the source of session s fits.
 pub fn entry_fits(t: &[u64; 9153], e: usize, s: usize) -> bool
-    requires { ⌜ (e < 64) × (s < 32) ⌝ }
+    requires { ⌜ (e < 64) × (s < 32) × (sourceFits (now t) s ≡ true) ⌝ }
     ensures { λ r. ⌜ r ≡ entryFits (now (t .entry)) e s ⌝ }
 {
     let a = 192 + e * 96 + s * 3;
     if 2 < t[a] {
         return false;
     }
+    let b = 6336 + s * 24 + 8;
     let rate = Rate {
-        num: t[a + 1],
-        den: t[a + 2],
+        num: t[b],
+        den: t[b + 1],
     };
-    rate.is_rate()
+    is_rate_beside(rate, t[a + 1], t[a + 2])
 }
 
 // Whether session s is active, and the length of its path.
@@ -97,11 +120,7 @@ fn rates_fit(told: u64, c: [u64; 8]) -> bool
         return false;
     }
     if told == 1 {
-        let last = Rate {
-            num: c[2],
-            den: c[3],
-        };
-        return last.is_rate();
+        return is_rate_beside(rate, c[2], c[3]);
     }
     true
 }

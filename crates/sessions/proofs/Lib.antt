@@ -4,4 +4,5 @@ pub mod Counts
 pub mod Operations
 pub mod Walks
 pub mod Writes
+pub mod EachMember
 mod Examples

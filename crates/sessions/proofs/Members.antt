@@ -1,7 +1,7 @@
 -- Members: who is one after `put` and `cut`, how large the words get, and that the members make the word.
 -- Assumes nothing.
 use mathlib.Core.Logic.{_⊎_, inl, inr}
-use mathlib.Core.Path.{_≡_, refl, ap, _∙_}
+use mathlib.Core.Path.{_≡_, refl, ap, sym, _∙_}
 use Prim.Native.Nat.{ℕ, zero, suc, _+_, _*_, _/_, _%_, _^_, _≤_, _<_}
 use native.Mathlib.Nat.{pow-suc}
 use mathlib.Core.Bool.{false, true}
@@ -133,3 +133,7 @@ same-members (suc k) w v hw hv e =
       e 0 (omega arith),
       same-members k (w / 2) (v / 2) (omega (arith, pow-suc 2 k)) (omega (arith, pow-suc 2 k)) (λ s l. e (suc s) (omega arith)),
     )
+
+-- a word without members is 0
+pub nobody : (k w : ℕ) → w < 2 ^ k → ((s : ℕ) → s < k → hasOf s w ≡ false) → w ≡ 0
+nobody k w h f = same-members k w 0 h (omega (arith, h)) (λ s l. is-out w s (f s l) ∙ sym (has-zero s))

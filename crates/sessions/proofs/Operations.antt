@@ -1,15 +1,18 @@
 -- What the operations on words do to the members: `|`, `&`, `!`, `<<` and `>>`.
 -- Assumes nothing.
-use mathlib.Core.Path.{_≡_, sym, ap, ap₂, _∙_}
+use mathlib.Core.Bool.{Bool, false, not, true, _&&_, _||_}
+use mathlib.Core.Logic.{_⊎_, inl, inr}
+use mathlib.Core.Path.{_≡_, refl, sym, ap, ap₂, _∙_}
 use Prim.Native.Nat.{ℕ, zero, suc, _+_, _-_, _*_, _/_, _%_, _^_, _≤_, _<_, min, max}
 use native.Mathlib.Nat.{pow-suc, one-mul, max-zero, min-zero, max-eq-right, min-eq-left, min-le-left, mod-eq-of-lt, div-div-eq-div-mul}
 use native.Mathlib.Omega.{arith}
 use lib.Bits.{bitAnd, bitOr, and-step, and-le-l, or-step, or-shr, or-zero-l, or-zero-r, and-mask, and-shr}
 use lib.Count.{ones}
+use lib.Dec.{eqb}
 use lib.Pow.{pow-pos, pow-lt, shl-exact}
-use Rattle.sessions.specs.Set.{has, put, cut}
-use Rattle.sessions.proofs.Members.{has-put-same, has-put-other, has-zero}
-use Rattle.sessions.proofs.Counts.{ones-mono, ones-put, ones-zero}
+use Rattle.sessions.specs.Set.{has, hasOf, put, cut}
+use Rattle.sessions.proofs.Members.{has-or-not, has-put-same, has-put-other, has-zero, nobody}
+use Rattle.sessions.proofs.Counts.{ones-put, ones-zero}
 
 -- `1 << s` in a word of k digits
 pub shl-one : (k s : ℕ) → s < k → (1 * 2 ^ s) % 2 ^ k ≡ 2 ^ s
@@ -69,6 +72,36 @@ has-or zero a b = ap (λ (x : ℕ). x % 2) (or-step a b) ∙ lowest (bitOr (a / 
     lowest x d e h k = omega arith
 has-or (suc s) a b = ap (has s) (or-shr a b 1) ∙ has-or s (a / 2) (b / 2)
 
+-- a member of either word, and of both
+either : (a b : ℕ) → (a ≡ 0) ⊎ (a ≡ 1) → (b ≡ 0) ⊎ (b ≡ 1) → eqb (max a b) 1 ≡ (eqb a 1 || eqb b 1)
+either a b (inl x) (inl y) = rw (x, y)
+either a b (inl x) (inr y) = rw (x, y)
+either a b (inr x) (inl y) = rw (x, y)
+either a b (inr x) (inr y) = rw (x, y)
+
+both : (a b : ℕ) → (a ≡ 0) ⊎ (a ≡ 1) → (b ≡ 0) ⊎ (b ≡ 1) → eqb (min a b) 1 ≡ (eqb a 1 && eqb b 1)
+both a b (inl x) (inl y) = rw (x, y)
+both a b (inl x) (inr y) = rw (x, y)
+both a b (inr x) (inl y) = rw (x, y)
+both a b (inr x) (inr y) = rw (x, y)
+
+pub in-either : (s a b : ℕ) → hasOf s (bitOr a b) ≡ (hasOf s a || hasOf s b)
+in-either s a b = ap (λ (d : ℕ). eqb d 1) (has-or s a b) ∙ either (has s a) (has s b) (has-or-not s a) (has-or-not s b)
+
+pub in-both : (s a b : ℕ) → hasOf s (bitAnd a b) ≡ (hasOf s a && hasOf s b)
+in-both s a b = ap (λ (d : ℕ). eqb d 1) (has-and s a b) ∙ both (has s a) (has s b) (has-or-not s a) (has-or-not s b)
+
+-- two words have no member in common exactly where the word of those in both is 0
+pub apart-each : (a b : ℕ) → bitAnd a b ≡ 0 → (s : ℕ) → not (hasOf s a && hasOf s b) ≡ true
+apart-each a b h s = ap not (sym (in-both s a b) ∙ ap (λ (w : ℕ). hasOf s w) h ∙ ap (λ (d : ℕ). eqb d 1) (has-zero s))
+
+pub word-apart : (k a b : ℕ) → a < 2 ^ k → ((s : ℕ) → s < k → not (hasOf s a && hasOf s b) ≡ true) → bitAnd a b ≡ 0
+word-apart k a b h f = nobody k (bitAnd a b) (omega (arith, and-le-l a b, h)) (λ s l. in-both s a b ∙ not-both (hasOf s a && hasOf s b) (f s l))
+  where
+    not-both : (t : Bool) → not t ≡ true → t ≡ false
+    not-both true e = sym e
+    not-both false e = refl
+
 -- `!b`: the complement within k digits
 pub has-not : (k s b : ℕ) → s < k → b < 2 ^ k → has s ((2 ^ k - 1) - b) ≡ 1 - has s b
 unfolding has
@@ -81,12 +114,6 @@ has-not (suc k) (suc s) b h l =
 -- `w & !b`
 pub has-without : (k s w b : ℕ) → s < k → b < 2 ^ k → has s (bitAnd w ((2 ^ k - 1) - b)) ≡ min (has s w) (1 - has s b)
 has-without k s w b h l = has-and s w ((2 ^ k - 1) - b) ∙ ap (λ (v : ℕ). min (has s w) v) (has-not k s b h l)
-
--- an intersection has no more members
-pub ones-and : (k a b : ℕ) → a < 2 ^ k → ones (bitAnd a b) ≤ ones a
-ones-and k a b h =
-    ones-mono k (bitAnd a b) a (omega (arith, and-le-l a b)) h
-    (λ s l. omega (arith, has-and s a b, min-le-left (has s a) (has s b)))
 
 -- the set of one session is the empty set with it
 two-put : (s : ℕ) → 2 ^ s ≡ put s 0

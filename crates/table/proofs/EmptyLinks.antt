@@ -8,9 +8,8 @@ use Rattle.fractions.specs.Fraction.{zeroOf}
 use Rattle.links.specs.declared.Link.{Link}
 use Rattle.links.specs.declared.Total.the-variants as total
 use Rattle.links.specs.Links.{F, R, holds, inF, inR, sumOf}
-use Rattle.sessions.specs.Set.{walk}
+use Rattle.links.proofs.Bounds.{sum-none}
 use Rattle.sessions.proofs.Members.{has-zero}
-use Rattle.sessions.proofs.Walks.{no-members}
 use Rattle.table.specs.Words.{emptyWords, placeOf, sourceOf}
 use Rattle.table.proofs.Empty.{empty-link, empty-source}
 
@@ -33,5 +32,4 @@ pub none-active : (s : ℕ) → sourceOf emptyWords s .active ≡ false
 none-active s = ap (λ (z : Source). z .active) (empty-source s)
 
 pub empty-sum : (e : ℕ) → sumOf (placeOf emptyWords e) ≡ total.Rate zeroOf
-unfolding sumOf walk
-empty-sum e = rw (no-members 32 (F (placeOf emptyWords e)) (empty-F e))
+empty-sum e = sum-none (placeOf emptyWords e) (empty-F e)

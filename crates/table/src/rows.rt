@@ -10,6 +10,7 @@ use links::Place;
 ghost use mathlib.Core.Path.{_≡_};
 ghost use Prim.Native.Nat.{_<_};
 ghost use lib.ListN.{length};
+ghost use Rattle.links.specs.Links.{entryAt};
 ghost use Rattle.table.specs.Words.{entryOf, linkOf, placeOf, putEntry, putLink, putPlace, putRow, rowOf};
 
 pub fn link_at(t: &[u64; 9153], e: usize) -> Link
@@ -44,6 +45,14 @@ fn entry_at(t: &[u64; 9153], a: usize) -> Entry
     let mu = mu_of(t[a]);
     let rate = Rate::kept(t[a + 1], t[a + 2]);
     Entry { mu, rate }
+}
+
+// The entry of session s at link e.
+pub fn entry_in(t: &[u64; 9153], e: usize, s: usize) -> Entry
+    requires { ⌜ (e < 64) × (s < 32) ⌝ }
+    ensures { λ r. ⌜ r ≡ entryAt (placeOf (now (t .entry)) e) s ⌝ }
+{
+    entry_at(t, 192 + e * 96 + s * 3)
 }
 
 fn put_entry(t: &mut [u64; 9153], a: usize, x: Entry)

@@ -48,6 +48,14 @@ pub fn source_at(t: &[u64; 9153], s: usize) -> Source
     source_from(b, c)
 }
 
+// Whether session s is active.
+pub fn active_at(t: &[u64; 9153], s: usize) -> bool
+    requires { ⌜ s < 32 ⌝ }
+    ensures { λ r. ⌜ r ≡ sourceOf (now (t .entry)) s .active ⌝ }
+{
+    t[6336 + s * 24] == 1
+}
+
 // The first eight words of a source.
 fn head_words(z: Source) -> [u64; 8]
     ensures { λ r. ⌜ r ≡ headWords z ⌝ }

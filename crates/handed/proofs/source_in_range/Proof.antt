@@ -2,8 +2,8 @@
 -- Assumes nothing.
 use mathlib.Core.Path.{sym, _∙_}
 use borrow.Author.Tests.{le-ltb, lt-ltb}
-use Rattle.handed.specs.Handed.{hasJoined, sourceInRange}
 use Rattle.fractions.proofs.Cases.{not-false, not-true}
+use Rattle.handed.specs.Handed.{hasJoined, sourceInRange}
 use borrow.Author.Needs.{needs}
 use Rattle.handed.proofs.source_in_range.Statement.{statement}
 use Rattle.handed.proofs.source_in_range.Tie as tie
@@ -29,14 +29,14 @@ returns-2 c =
     let d = sym (c .before .before .before .before .standing-fits .ensures) ∙ not-false _ (c .before .before .before .if1 .left) in
     rw (d, ← (c .before .before .hops-at .ensures), lt-ltb _ _ (c .before .if2 .taken)) (c .source-fits .ensures)
 
-source-at-requires : tie.Need-source-at-requires
-source-at-requires c κs = search needs
+active-at-requires : tie.Need-active-at-requires
+active-at-requires c κs = search needs
 
 returns-3 : tie.Need-returns-3
 unfolding sourceInRange hasJoined
 returns-3 c =
-    let d = sym (c .before .before .before .before .before .standing-fits .ensures) ∙ not-false _ (c .before .before .before .before .if1 .left) in
-    rw (d, ← (c .before .before .before .hops-at .ensures), le-ltb _ _ (c .before .before .if2 .left), ← (c .before .source-at .ensures))
+    let d = sym (c .before .before .before .before .standing-fits .ensures) ∙ not-false _ (c .before .before .before .if1 .left) in
+    rw (d, ← (c .before .before .hops-at .ensures), le-ltb _ _ (c .before .if2 .left), ← (c .active-at .ensures))
 
 pub source-in-range-spec : {M : Type 1} → statement M
 source-in-range-spec =
@@ -47,5 +47,5 @@ source-in-range-spec =
     hops-at-requires
     source-fits-requires
     returns-2
-    source-at-requires
+    active-at-requires
     returns-3)

@@ -1,8 +1,9 @@
--- `ranges::entry_fits` meets its contract.
+-- `ranges::entry_fits` meets its contract: the rate of the source is one.
 -- Assumes nothing.
-use borrow.Author.Needs.{needs}
 use borrow.Author.Tests.{le-leb, lt-leb}
 use Rattle.ranges.specs.Ranges.{entryFits}
+use Rattle.ranges.proofs.FitsMeans.{source-is-rate}
+use borrow.Author.Needs.{needs}
 use Rattle.ranges.proofs.entry_fits.Statement.{statement}
 use Rattle.ranges.proofs.entry_fits.Tie as tie
 
@@ -28,30 +29,56 @@ returns : tie.Need-returns
 unfolding entryFits
 returns c = rw (lt-leb _ _ (c .if1 .taken))
 
-add-t8 : tie.Need-add-t8
-add-t8 c = search needs
+mul-b : tie.Need-mul-b
+mul-b c = search needs
 
-mul-t7 : tie.Need-mul-t7
-mul-t7 c = search needs
+add-b : tie.Need-add-b
+add-b c = search needs
 
-element-copy-out-t11 : tie.Need-element-copy-out-t11
-element-copy-out-t11 c = search needs
+add-b-2 : tie.Need-add-b-2
+add-b-2 c = search needs
 
-add-t6 : tie.Need-add-t6
-add-t6 c = search needs
+mul-is-rate-beside : tie.Need-mul-is-rate-beside
+mul-is-rate-beside c = search needs
 
-mul-t15 : tie.Need-mul-t15
-mul-t15 c = search needs
+element-copy-out-is-rate-beside : tie.Need-element-copy-out-is-rate-beside
+element-copy-out-is-rate-beside c = search needs
 
-element-copy-out-t18 : tie.Need-element-copy-out-t18
-element-copy-out-t18 c = search needs
+add-is-rate-beside : tie.Need-add-is-rate-beside
+add-is-rate-beside c = search needs
 
-is-rate-requires : tie.Need-is-rate-requires
-is-rate-requires c κs = search needs
+mul-is-rate-beside-2 : tie.Need-mul-is-rate-beside-2
+mul-is-rate-beside-2 c = search needs
+
+element-copy-out-is-rate-beside-2 : tie.Need-element-copy-out-is-rate-beside-2
+element-copy-out-is-rate-beside-2 c = search needs
+
+add-is-rate-beside-2 : tie.Need-add-is-rate-beside-2
+add-is-rate-beside-2 c = search needs
+
+mul-is-rate-beside-3 : tie.Need-mul-is-rate-beside-3
+mul-is-rate-beside-3 c = search needs
+
+element-copy-out-is-rate-beside-3 : tie.Need-element-copy-out-is-rate-beside-3
+element-copy-out-is-rate-beside-3 c = search needs
+
+add-is-rate-beside-3 : tie.Need-add-is-rate-beside-3
+add-is-rate-beside-3 c = search needs
+
+mul-is-rate-beside-4 : tie.Need-mul-is-rate-beside-4
+mul-is-rate-beside-4 c = search needs
+
+element-copy-out-is-rate-beside-4 : tie.Need-element-copy-out-is-rate-beside-4
+element-copy-out-is-rate-beside-4 c = search needs
+
+is-rate-beside-requires : tie.Need-is-rate-beside-requires
+is-rate-beside-requires c κs =
+    let o = c .before .before .before .before .before .before in
+    source-is-rate (o .args .t .now) (o .args .s) (o .pre .2)
 
 returns-2 : tie.Need-returns-2
 unfolding entryFits
-returns-2 c = rw (le-leb _ _ (c .before .before .before .if1 .left)) (c .is-rate .ensures)
+returns-2 c = rw (le-leb _ _ (c .before .before .before .before .before .if1 .left)) (c .is-rate-beside .ensures)
 
 pub entry-fits-spec : {M : Type 1} → statement M
 entry-fits-spec =
@@ -64,11 +91,19 @@ entry-fits-spec =
     mul-if1
     element-copy-out-if1
     returns
-    add-t8
-    mul-t7
-    element-copy-out-t11
-    add-t6
-    mul-t15
-    element-copy-out-t18
-    is-rate-requires
+    mul-b
+    add-b
+    add-b-2
+    mul-is-rate-beside
+    element-copy-out-is-rate-beside
+    add-is-rate-beside
+    mul-is-rate-beside-2
+    element-copy-out-is-rate-beside-2
+    add-is-rate-beside-2
+    mul-is-rate-beside-3
+    element-copy-out-is-rate-beside-3
+    add-is-rate-beside-3
+    mul-is-rate-beside-4
+    element-copy-out-is-rate-beside-4
+    is-rate-beside-requires
     returns-2)

@@ -21,7 +21,7 @@ bound-from-requires c κs = let a = c .before .before in (a .pre .capacity, subs
 
 returns : tie.Need-returns
 unfolding B
-returns c = said-too boundSaid (rw (← (c .before .before .sum-of-f .ensures .0), ← (c .before .size .ensures)) (c .bound-from .ensures))
+returns c = said-too boundSaid (rw (← (c .before .before .sum-of-f .ensures .0), ← (c .before .size .ensures)) (c .bound-from .ensures .0))
 
 pub bottleneck-rate-spec : {M : Type 1} → statement M
 bottleneck-rate-spec =

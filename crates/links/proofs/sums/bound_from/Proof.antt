@@ -1,10 +1,11 @@
 -- `links::bound_from` meets its contract, whatever F comes to.
 -- Assumes nothing.
-use mathlib.Core.Path.{subst, ap, sym, _∙_}
+use mathlib.Core.Path.{subst, ap, refl, sym, _∙_}
 use native.Mathlib.Omega.{arith}
 use Prim.Native.Nat.{suc}
+use Rattle.fractions.proofs.Cases.{said-too}
 use Rattle.fractions.proofs.Ranges.{sized-more}
-use Rattle.links.specs.Links.{TotalSized, asBound, boundOf}
+use Rattle.links.specs.Links.{TotalSized, asBound, boundOf, boundSaid}
 use Rattle.links.proofs.Bounds.{bound-none, bound-past, bound-past-none, bound-some}
 use Rattle.links.specs.declared.Bound.the-variants as bound
 use borrow.Author.Needs.{needs}
@@ -30,20 +31,20 @@ zero-requires : tie.Need-zero-requires
 zero-requires c κs = search needs
 
 returns : tie.Need-returns
-returns c = rw (c .before .before .total .given .1) (sym (bound-none _ _ _ (c .if1 .taken)))
+returns c = said-too boundSaid (rw (c .before .before .total .given .1) (sym (bound-none _ _ _ (c .if1 .taken))))
 
 returns-2 : tie.Need-returns-2
-returns-2 c = rw (c .before .before .before .before .total .given .1) (c .as-bound .ensures ∙ (ap asBound (c .before .share .ensures .0) ∙ sym (bound-some _ _ _ (omega arith))))
+returns-2 c = said-too boundSaid (rw (c .before .before .before .before .total .given .1) (c .as-bound .ensures ∙ (ap asBound (c .before .share .ensures .0) ∙ sym (bound-some _ _ _ (omega arith)))))
 
 returns-3 : tie.Need-returns-3
 unfolding boundOf
-returns-3 c = rw (c .enum-told .given .1)
+returns-3 c = rw (c .enum-told .given .1) (refl, refl)
 
 returns-4 : tie.Need-returns-4
-returns-4 c = rw (c .before .enum-told2 .given .1) (sym (bound-past-none _ _ (c .if2 .taken)))
+returns-4 c = said-too boundSaid (rw (c .before .enum-told2 .given .1) (sym (bound-past-none _ _ (c .if2 .taken))))
 
 returns-5 : tie.Need-returns-5
-returns-5 c = rw (c .before .before .enum-told2 .given .1) (ap bound.At (c .zero .ensures) ∙ sym (bound-past _ _ (omega arith)))
+returns-5 c = said-too boundSaid (rw (c .before .before .enum-told2 .given .1) (ap bound.At (c .zero .ensures) ∙ sym (bound-past _ _ (omega arith))))
 
 pub bound-from-spec : {M : Type 1} → statement M
 bound-from-spec =

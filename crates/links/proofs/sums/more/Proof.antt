@@ -1,8 +1,9 @@
 -- `links::more` meets its contract: a rate more, or the same that it was.
 -- Assumes nothing.
-use mathlib.Core.Path.{subst, sym}
+use mathlib.Core.Path.{refl, subst, sym}
+use Rattle.fractions.proofs.Cases.{said-too}
 use Rattle.fractions.proofs.Ranges.{sized-more}
-use Rattle.links.specs.Links.{SumSized, TotalSized, moreOf}
+use Rattle.links.specs.Links.{SumSized, TotalSized, moreOf, totalSaid}
 use Rattle.links.proofs.Sizes.{to-limit, two-sized}
 use borrow.Author.Needs.{needs}
 use Rattle.links.proofs.sums.more.Statement.{statement}
@@ -25,15 +26,15 @@ enum-told-2 c = search needs
 
 returns : tie.Need-returns
 unfolding moreOf
-returns c = rw (c .before .before .before .total .given .1, ← (c .before .plus .ensures .0)) (c .up-to .ensures)
+returns c = said-too totalSaid (rw (c .before .before .before .total .given .1, ← (c .before .plus .ensures .0)) (c .up-to .ensures))
 
 returns-2 : tie.Need-returns-2
 unfolding moreOf
-returns-2 c = rw (c .enum-told .given .1)
+returns-2 c = rw (c .enum-told .given .1) (refl, refl)
 
 returns-3 : tie.Need-returns-3
 unfolding moreOf
-returns-3 c = rw (c .enum-told2 .given .1)
+returns-3 c = rw (c .enum-told2 .given .1) (refl, refl)
 
 pub more-spec : {M : Type 1} → statement M
 more-spec =

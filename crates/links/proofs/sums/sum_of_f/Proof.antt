@@ -61,9 +61,9 @@ loop-less c = less c
 loop-again : tie.Need-loop-again Inv-loop μ-loop
 loop-again c = (
   omega (arith, less c, c .before .before .before .before .before .loop .inv .0),
-  subst (TotalSized (c .before .before .before .before .before .before .before .args .t1 .link .capacity)) (sym (c .before .more .ensures)) (more-sized _ _ _ (c .before .before .before .before .before .before .before .pre .capacity) (c .before .before .before .before .before .loop .inv .1) (c .before .before .before .before .before .before .before .pre .rates .sized _ (below (c .before .before .before)))),
+  subst (TotalSized (c .before .before .before .before .before .before .before .args .t1 .link .capacity)) (sym (c .before .more .ensures .0)) (more-sized _ _ _ (c .before .before .before .before .before .before .before .pre .capacity) (c .before .before .before .before .before .loop .inv .1) (c .before .before .before .before .before .before .before .pre .rates .sized _ (below (c .before .before .before)))),
   sym (walk-turn (λ a s. moreOf (c .before .before .before .before .before .before .before .args .t1 .link .capacity) a (rateAt (c .before .before .before .before .before .before .before .args .t1) s)) 32 (c .before .before .before .before .before .loop .total) (c .before .more .result) (c .before .before .before .before .before .loop .left) (c .before .before .before .next .result) (c .cut .result) (omega arith)
-      (c .before .before .before .before .before .loop .inv .0) (c .before .before .before .next .ensures) (c .cut .ensures) (c .before .more .ensures)) ∙ c .before .before .before .before .before .loop .inv .2,
+      (c .before .before .before .before .before .loop .inv .0) (c .before .before .before .next .ensures) (c .cut .ensures) (c .before .more .ensures .0)) ∙ c .before .before .before .before .before .loop .inv .2,
 )
 
 returns : tie.Need-returns Inv-loop μ-loop
