@@ -1,5 +1,6 @@
 -- What the code finds is what Figure 1 gives: the same rates in lowest terms, and the same binding places.
 -- Assumes nothing.
+use mathlib.Core.Bool.{cond}
 use mathlib.Core.Path.{_≡_, ap, sym, _∙_}
 use Prim.Native.Nat.{ℕ, _*_, _<_}
 use lib.Dec.{eqb}
@@ -20,7 +21,7 @@ use Rattle.fairness.proofs.Uniqueness.{max-min-unique}
 use Rattle.declarations.specs.declared.Declared.{Declared}
 use Rattle.filling.specs.Lines.{Filled, problemOf}
 use Rattle.filling.specs.declared.Fixed.{Fixed}
-use Rattle.calculation.specs.Binding.{bindingOf, firstOf, fullyUsed, pathBytes}
+use Rattle.calculation.specs.Binding.{bindingOf, firstOf, fullyUsed, own, pathBytes, bindingByRoom}
 use Rattle.calculation.specs.Calculating.{resultsOf}
 use Rattle.calculation.specs.Results.{Found}
 use Rattle.calculation.specs.declared.Results.{Results}
@@ -46,6 +47,15 @@ module _ (d : Declared) (N : ℕ) (x : ℕ → ℕ) (M : ℕ) (y : ℕ → ℕ) 
       (λ e. eqb-below e _ _ _ _ (λ l. full-same p N x M y (f .feasible .pos) there e) (λ l. full-same p M y N x (g .feasible .pos) back e)) in
       rw (own, full)
 
+-- the binding place by the rooms that are left: a link has no room exactly where it is fully used
+place-is-binding : (d : Declared) (z : Fixed) → Filled d z → (t : ℕ)
+    → bindingByRoom (d .path) (z .room) (getD (z .rate) t 0) (z .den * problemOf d .D t) t ≡ bindingOf d (z .den) (λ s. getD (z .rate) s 0) t
+unfolding bindingOf problemOf
+place-is-binding d z f t =
+    ap (cond (eqb (getD (z .rate) t 0) (z .den * problemOf d .D t)) own)
+    (first-cong _ (fullyUsed (problemOf d) (z .den) (λ s. getD (z .rate) s 0)) (pathBytes (d .path) t)
+    (λ e. eqb-below e (getD (z .room) e 0) 0 _ _ (f .full e) (f .spent e)))
+
 -- the rates of the code, in lowest terms, answer the problem
 filled-answer : (d : Declared) (z : Fixed) → Filled d z → Answer (problemOf d) (λ t. lowestOf (getD (z .rate) t 0) (z .den))
 filled-answer d z f =
@@ -57,7 +67,7 @@ filled-answer d z f =
       lowest = λ t h. lowest-lowest (getD (z .rate) t 0) (z .den) (f .fair .feasible .pos);
     }
 
-module _ (d : Declared) (z : Fixed) (v : Results) (f : Filled d z) (found : Found d z (d .sessions) v) where
+module _ (d : Declared) (z : Fixed) (v : Results) (f : Filled d z) (found : Found (d .access) (d .maximum) (d .path) (z .rate) (z .room) (z .den) (d .sessions) v) where
   same-rate : (t : ℕ) → Active (problemOf d) t → lowestOf (getD (z .rate) t 0) (z .den) ≡ figure1Rate (problemOf d) t
   same-rate = answer-unique (problemOf d) _ _ (filled-answer d z f) (figure1-answer (problemOf d))
 
@@ -70,8 +80,9 @@ module _ (d : Declared) (z : Fixed) (v : Results) (f : Filled d z) (found : Foun
   same-dens t h m = found .den t h m ∙ (ap (λ (r : Rate). r .den) (same-rate t (active d t h m)) ∙ sym (values-at 32 t _ 0 h))
 
   pub same-places : (t : ℕ) → t < 32 → has t (d .sessions) ≡ 1 → getD (v .places) t 0 ≡ getD (resultsOf d .places) t 0
-  unfolding resultsOf
+  unfolding resultsOf problemOf
   same-places t h m =
       found .place t h m
-      ∙ (binding-same d (z .den) (λ s. getD (z .rate) s 0) (figure1 (problemOf d) .den) (rate (figure1 (problemOf d))) (f .fair) (figure1-fair (problemOf d)) t (active d t h m)
+      ∙ (place-is-binding d z f t
+      ∙ binding-same d (z .den) (λ s. getD (z .rate) s 0) (figure1 (problemOf d) .den) (rate (figure1 (problemOf d))) (f .fair) (figure1-fair (problemOf d)) t (active d t h m)
       ∙ sym (values-at 32 t _ 0 h))

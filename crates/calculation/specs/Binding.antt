@@ -31,3 +31,7 @@ fullyUsed p N x e = ltb e 64 && eqb (used p x e) (N * p .capacity e)
 unfoldable pub bindingOf : Declared → ℕ → (ℕ → ℕ) → ℕ → ℕ
 bindingOf d N x t =
     cond (eqb (x t) (N * problemOf d .D t)) own (firstOf (fullyUsed (problemOf d) N x) (pathBytes (d .path) t))
+
+-- the same by the rooms that the calculation leaves: a link is fully used where it has no room
+abbrev pub bindingByRoom : List ℕ → List ℕ → ℕ → ℕ → ℕ → ℕ
+bindingByRoom path room rate limit t = cond (eqb rate limit) own (firstOf (λ e. ltb e 64 && eqb (getD room e 0) 0) (pathBytes path t))

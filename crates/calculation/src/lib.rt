@@ -4,13 +4,13 @@ ghost use mathlib.Core.Path.{_≡_};
 ghost use Prim.Native.Nat.{ℕ, _+_, _≤_, _<_};
 ghost use lib.Dec.{eqb, ltb};
 ghost use lib.ListN.{getD, length};
+ghost use Rattle.fractions.specs.Fraction.{maxRate};
 ghost use Rattle.fairness.specs.Figure1.{values};
-ghost use Rattle.filling.specs.Lines.{Filled, Ranges};
-ghost use Rattle.calculation.specs.Binding.{bindingOf, firstOf};
+ghost use Rattle.filling.specs.Lines.{Ranges};
+ghost use Rattle.calculation.specs.Binding.{firstOf, bindingByRoom};
 ghost use Rattle.calculation.specs.Calculating.{Ordered, calculateOf, doneOf, saidOf, written};
 ghost use Rattle.calculation.specs.Results.{Found};
 use declarations::Declared;
-use filling::Fixed;
 use fractions::Rate;
 use records::End;
 use records::Refusal;
@@ -66,18 +66,14 @@ fn first_full(path: &[u8; 256], room: &[u64; 64], from: usize) -> u64
 }
 
 // The binding place of session t: "own" if its rate equals D, else the first link on its path that is fully used.
-fn binding(d: Declared, z: Fixed, t: u32) -> u64
-    requires { ⌜ Ranges d × Filled d z × (t < 32) ⌝ }
-    ensures { λ r. ⌜ r ≡ bindingOf d (z .den) (λ s. getD (z .rate) s 0) t ⌝ }
+fn binding(path: &[u8; 256], room: &[u64; 64], rate: u64, limit: u64, t: u32) -> u64
+    requires { ⌜ t < 32 ⌝ }
+    ensures { λ r. ⌜ r ≡ bindingByRoom (now (path .entry)) (now (room .entry)) rate limit t ⌝ }
 {
-    let i = t as usize;
-    let limit = declarations::own_limit(d.access[i], d.maximum[i]);
-    let den = z.den;
-    let most = den * limit;
-    if z.rate[i] == most {
+    if rate == limit {
         return OWN;
     }
-    first_full(&d.path, &z.room, i * 8)
+    first_full(path, room, (t as usize) * 8)
 }
 
 fn no_results() -> Results
@@ -90,21 +86,30 @@ fn no_results() -> Results
     }
 }
 
-// The rates in lowest terms and the binding places of the declared sessions.
-fn find(d: Declared, z: Fixed) -> Results
-    requires { ⌜ Ranges d × Filled d z ⌝ }
-    ensures { λ r. ⌜ Found d z (d .sessions) r ⌝ }
+// The rates in lowest terms and the binding places of these sessions.
+fn find<'a, 'b>(
+    these: u32,
+    access: &'a [u64; 32],
+    maximum: &'a [u64; 32],
+    path: &'a [u8; 256],
+    den: u64,
+    rate: &'b [u64; 32],
+    room: &'b [u64; 64],
+) -> Results
+    requires { ⌜ (0 < den) × (den ≤ 118098) × ((t : ℕ) → t < 32 → getD (now access) t 0 ≤ maxRate) ⌝ }
+    ensures { λ r. ⌜ Found (now (access .entry)) (now (maximum .entry)) (now (path .entry)) (now (rate .entry)) (now (room .entry)) den these r ⌝ }
 {
     let mut out = no_results();
-    let mut left = d.sessions;
-    let den = z.den;
+    let mut left = these;
     while left != 0 {
         let t = sessions::next(left);
         let i = t as usize;
-        let rate = Rate::lowest(z.rate[i], den);
-        let place = binding(d, z, t);
-        out.nums[i] = rate.num;
-        out.dens[i] = rate.den;
+        let x = rate[i];
+        let lowest = Rate::lowest(x, den);
+        let limit = declarations::own_limit(access[i], maximum[i]);
+        let place = binding(path, room, x, den * limit, t);
+        out.nums[i] = lowest.num;
+        out.dens[i] = lowest.den;
         out.places[i] = place;
         left = sessions::cut(left, t);
     }
@@ -135,7 +140,16 @@ fn answer(d: Declared, nums: &mut [u64], dens: &mut [u64], places: &mut [u64]) -
 {
     let links = d.links;
     let declared = d.sessions;
-    let v = find(d, filling::filled(d));
+    let z = filling::filled(d);
+    let v = find(
+        declared,
+        &d.access,
+        &d.maximum,
+        &d.path,
+        z.den,
+        &z.rate,
+        &z.room,
+    );
     write(declared, &v.nums, nums);
     write(declared, &v.dens, dens);
     write(declared, &v.places, places);

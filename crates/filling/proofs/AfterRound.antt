@@ -5,9 +5,8 @@ use mathlib.Core.List.{List}
 use mathlib.Core.Logic.{_⊎_, inl, inr}
 use mathlib.Core.Path.{_≡_, refl, sym, ap, _∙_, subst}
 use Prim.Native.Nat.{ℕ, zero, suc, _+_, _-_, _*_, _^_, _<_, _≤_, min}
-use native.Mathlib.Nat.{mul-le-mul, mul-pos}
+use native.Mathlib.Nat.{mul-le-mul, mul-le-mul-right, mul-pos}
 use native.Mathlib.Omega.{arith}
-use borrow.Author.Tests.{ne-eqb}
 use lib.Bits.{and-le-l, and-zero-l, bitAnd}
 use lib.Count.{ones}
 use lib.Dec.{T, eqb}
@@ -15,7 +14,7 @@ use lib.ListN.{getD, length}
 use Rattle.sessions.specs.Set.{has}
 use Rattle.sessions.proofs.Members.{has-lt}
 use Rattle.sessions.proofs.Counts.{ones-zero}
-use Rattle.sessions.proofs.Operations.{has-without, has-and}
+use Rattle.sessions.proofs.Operations.{has-and}
 use Rattle.fairness.specs.Figure1.{Net, leftAt, loadAt, net, openAt}
 use Rattle.fairness.specs.Sum.{part, sum}
 use Rattle.fairness.proofs.Denominators.{SmallDenominator, small-32, small-step}
@@ -25,12 +24,10 @@ use Rattle.fairness.proofs.Sums.{sum-eq}
 use Rattle.fractions.proofs.Cases.{order}
 use Rattle.declarations.specs.declared.Declared.{Declared}
 use Rattle.filling.specs.Lines.{problemOf}
-use Rattle.filling.specs.OneRound.{LinksAfter, Running, fixedIn, linkAfter}
+use Rattle.filling.specs.OneRound.{LinksAfter, Running, fixedIn}
 use Rattle.filling.specs.SmallestShare.{LinksFit, partsLimit, wordOf}
-use Rattle.filling.specs.declared.Fill.{Fill}
+use Rattle.filling.specs.State.{Fill, Links, fillOf}
 use Rattle.filling.specs.declared.Given.{Given}
-use Rattle.filling.specs.declared.Links.{Links}
-use Rattle.filling.proofs.OneLink.{still-is, word-after}
 use Rattle.filling.proofs.OpenSessions.{few, left-is, ones-sum, open-ones, room-link, weights, word-link}
 use Rattle.filling.proofs.RoundOfFigure1.{Turn, openAfter}
 
@@ -97,22 +94,11 @@ module _ (d : Declared) (z : Fill) (run : Running d z) (l : Given) (small-word :
       )
 
   module _ (links' : Links) (links-are : LinksAfter (z .links) l links') where
-    at-after : (e : ℕ) → e < 64 → getD (links' .at) e 0 ≡ bitAnd (getD (z .links .at) e 0) ((2 ^ 32 - 1) - l .chosen)
-    at-after e h = links-are .at e h ∙ word-after l (getD (z .links .room) e 0) (getD (z .links .at) e 0)
-
-    room-after : (e : ℕ) → e < 64 → 0 < getD (z .links .at) e 0
-        → getD (links' .room) e 0 ≡ getD (z .links .room) e 0 * l .count - l .room * ones (bitAnd (getD (z .links .at) e 0) (l .chosen))
-    unfolding linkAfter
-    room-after e h p = links-are .room e h ∙ rw (ne-eqb (getD (z .links .at) e 0) 0 (λ q. omega arith)) refl
-
-    at-min : (e : ℕ) → e < 64 → (s : ℕ) → s < 32 → has s (getD (links' .at) e 0) ≡ min (has s (getD (z .links .at) e 0)) (1 - has s (l .chosen))
-    at-min e h s k = ap (has s) (at-after e h) ∙ has-without 32 s (getD (z .links .at) e 0) (l .chosen) k small-word
-
     next-at : (e : ℕ) → e < 64 → (s : ℕ) → s < 32
         → (T (w .on e s) → has s (getD (links' .at) e 0) ≡ has s opens') × (T (not (w .on e s)) → has s (getD (links' .at) e 0) ≡ 0)
     next-at e h s k = (
-      λ o. at-min e h s k ∙ rw (run .at e h s k .0 o) (sym (turn .open-after s k)),
-      λ o. at-min e h s k ∙ rw (run .at e h s k .1 o) (omega arith),
+      λ o. links-are .at e h s k ∙ rw (run .at e h s k .0 o) (sym (turn .open-after s k)),
+      λ o. links-are .at e h s k ∙ rw (run .at e h s k .1 o) (omega arith),
     )
 
     chosen-count : (e : ℕ) → e < 64
@@ -135,7 +121,7 @@ module _ (d : Declared) (z : Fill) (run : Running d z) (l : Given) (small-word :
         let f = left-is d z run e (omega arith) q ∙ room-link d z run e h in
         omega (
           arith,
-          room-after e h p,
+          links-are .room e h p,
           left-after w (z .den) x fixed (weights d) (run .filling) b ch N' x' (fixedIn opens') (turn .is-round) e (omega arith),
           ap (λ (v : ℕ). l .room * v) (chosen-count e h),
           ap (λ (v : ℕ). v * sum (w .sessions) (λ s. part (w .on e s) (part (ch s) (w .weight s)))) (turn .b-room),
@@ -152,53 +138,75 @@ module _ (d : Declared) (z : Fill) (run : Running d z) (l : Given) (small-word :
     unfolding net problemOf
     next-kept e h = go (order (getD (z .links .at) e 0) 0)
       where
-        go : (getD (z .links .at) e 0 ≤ 0) ⊎ (0 < getD (z .links .at) e 0) → (c : ℕ) × (0 < c) × (leftAt w N' x' e ≡ c * getD (links' .room) e 0)
-        go (inr p) = (1, omega arith, omega (arith, left-next e h p))
-        go (inl n) =
-            let a = run .kept e h in
-            let q : getD (z .links .at) e 0 ≡ 0 = omega arith in
+        a : (c : ℕ) × (0 < c) × (leftAt w (z .den) x e ≡ c * getD (z .links .room) e 0)
+        a = run .kept e h
+
+        -- nobody is there to get the share
+        after : getD (z .links .at) e 0 ≡ 0 → leftAt w N' x' e + leftAt w (z .den) x b * 0 ≡ openAt w fixed b * leftAt w (z .den) x e
+        after q =
             let none : ones (bitAnd (getD (z .links .at) e 0) (l .chosen)) ≡ 0 =
             ap (λ (v : ℕ). ones (bitAnd v (l .chosen))) q ∙ ap ones (and-zero-l (l .chosen)) ∙ ones-zero in
-            let same : getD (links' .room) e 0 ≡ getD (z .links .room) e 0 =
-            links-are .room e h ∙ still-is l (getD (z .links .room) e 0) (getD (z .links .at) e 0) q .0 in
-            let after : leftAt w N' x' e + leftAt w (z .den) x b * 0 ≡ openAt w fixed b * leftAt w (z .den) x e =
             subst (λ (v : ℕ). leftAt w N' x' e + leftAt w (z .den) x b * v ≡ openAt w fixed b * leftAt w (z .den) x e) (chosen-count e h ∙ none)
-            (left-after w (z .den) x fixed (weights d) (run .filling) b ch N' x' (fixedIn opens') (turn .is-round) e (omega arith)) in (
-              openAt w fixed b * a .0,
-              mul-pos (turn .is-round .some) (a .1),
-              omega (arith, after, ap (λ (v : ℕ). openAt w fixed b * v) (a .2), ap (λ (v : ℕ). openAt w fixed b * a .0 * v) same),
-            )
+            (left-after w (z .den) x fixed (weights d) (run .filling) b ch N' x' (fixedIn opens') (turn .is-round) e (omega arith))
 
+        still : getD (z .links .at) e 0 ≡ 0
+            → (getD (links' .room) e 0 ≡ getD (z .links .room) e 0) ⊎ (getD (links' .room) e 0 ≡ getD (z .links .room) e 0 * l .count)
+            → (c : ℕ) × (0 < c) × (leftAt w N' x' e ≡ c * getD (links' .room) e 0)
+        still q (inl same) = (
+          openAt w fixed b * a .0,
+          mul-pos (turn .is-round .some) (a .1),
+          omega (arith, after q, ap (λ (v : ℕ). openAt w fixed b * v) (a .2), ap (λ (v : ℕ). openAt w fixed b * a .0 * v) same),
+        )
+        still q (inr more) = (
+          a .0,
+          a .1,
+          omega (
+            arith,
+            after q,
+            ap (λ (v : ℕ). openAt w fixed b * v) (a .2),
+            ap (λ (v : ℕ). a .0 * getD (z .links .room) e 0 * v) (turn .b-count),
+            ap (λ (v : ℕ). a .0 * v) more,
+          ),
+        )
+
+        go : (getD (z .links .at) e 0 ≤ 0) ⊎ (0 < getD (z .links .at) e 0) → (c : ℕ) × (0 < c) × (leftAt w N' x' e ≡ c * getD (links' .room) e 0)
+        go (inr p) = (1, omega arith, omega (arith, left-next e h p))
+        go (inl n) = still (omega arith) (links-are .still e h (omega arith))
+
+    -- a room is at most what is left
     next-fit : LinksFit links'
+    unfolding leftAt net problemOf
     next-fit =
         record {
-          room = λ e h. room e h (order (getD (z .links .at) e 0) 0);
-          at = λ e h. omega (arith, at-after e h, and-le-l (getD (z .links .at) e 0) ((2 ^ 32 - 1) - l .chosen), run .links .at e h);
+          room = room;
+          at = λ e h. omega (arith, links-are .small e h, run .links .at e h);
+          count = links-are .count;
           busy = links-are .busy;
         }
       where
-        room : (e : ℕ) → e < 64 → (getD (z .links .at) e 0 ≤ 0) ⊎ (0 < getD (z .links .at) e 0) → getD (links' .room) e 0 ≤ partsLimit
-        room e h (inr p) = omega (arith, next-room e h p, mul-le-mul den-after (run .ranges .capacity e h))
-        room e h (inl n) =
+        room : (e : ℕ) → e < 64 → getD (links' .room) e 0 ≤ partsLimit
+        room e h =
+            let k = next-kept e h in
             omega (
               arith,
-              still-is l (getD (z .links .room) e 0) (getD (z .links .at) e 0) (omega arith) .0,
-              links-are .room e h,
-              run .links .room e h,
+              k .2,
+              mul-le-mul-right {m = 1} {n = k .0} (getD (links' .room) e 0) (k .1),
+              ap (λ (v : ℕ). N' * v) (cap-link (problemOf d) e h),
+              mul-le-mul den-after (run .ranges .capacity e h),
             )
 
-    pub running : Running d (record { den = z .den * l .count; opens = openAfter (z .opens) l; links = links'; rate = rate' })
+    pub running : Running d (fillOf (z .den * l .count) (openAfter (z .opens) l) links' rate')
     running =
         record {
           ranges = run .ranges;
           word = omega (arith, opens-less);
           links = next-fit;
-          rooms = links-are .long;
+          whole = links-are .long;
           rates = long;
           filling = next-filling;
           small = next-small;
           declared = λ s h. omega (arith, run .declared s h, turn .open-after s h);
           at = next-at;
-          room = λ e h p. next-room e h (omega (arith, at-after e h, and-le-l (getD (z .links .at) e 0) ((2 ^ 32 - 1) - l .chosen)));
+          room = λ e h p. next-room e h (omega (arith, links-are .small e h));
           kept = next-kept;
         }

@@ -17,11 +17,11 @@ use Rattle.fairness.proofs.Figure1IsFair.{filling-begins, filling-ends-fair, lo
 use Rattle.fairness.proofs.NetOfProblem.{cap-link, load-link, on-link}
 use Rattle.fairness.proofs.Products.{one-largest}
 use Rattle.declarations.specs.declared.Declared.{Declared}
-use Rattle.filling.specs.Crossings.{Crossing}
+use Rattle.filling.specs.Crossings.{Crossing, wordsOf}
 use Rattle.filling.specs.Lines.{Filled, Ranges, crossesOf, problemOf}
 use Rattle.filling.specs.OneRound.{Running, fixedIn}
-use Rattle.filling.specs.declared.Fill.{Fill}
-use Rattle.filling.specs.declared.Words.{Words}
+use Rattle.filling.specs.SmallestShare.{Counted}
+use Rattle.filling.specs.State.{Fill, fillOf, linksOf}
 use Rattle.filling.proofs.OpenSessions.{few}
 
 -- THE BEGINNING -------------------------------------------------------------------------------------------------------
@@ -39,22 +39,23 @@ at-first false (suc zero) a l q = (λ t. absurd t, λ t. q)
 at-first c (suc (suc h)) a l q = absurd (omega arith)
 
 pub start-running : (d : Declared) → Ranges d → d .sessions < 4294967296 → length (d .capacity) ≡ 64
-    → (words : Words) (rate : List ℕ) → Crossing (d .path) (d .sessions) words → rate ≡ replicate 32 0
-    → Running d (record { den = 1; opens = d .sessions; links = record { busy = words .busy; room = d .capacity; at = words .at }; rate = rate })
+    → (busy : ℕ) (at count rate : List ℕ) → Crossing (d .path) (d .sessions) (wordsOf busy at) → Counted at count → length count ≡ 64
+    → rate ≡ replicate 32 0
+    → Running d (fillOf 1 (d .sessions) (linksOf busy (d .capacity) at count) rate)
 unfolding problemOf leftAt
-start-running d ranges small long words rate c q =
+start-running d ranges small long busy at count rate c n counts q =
     record {
       ranges = ranges;
       word = small;
-      links = record { room = λ e h. omega (arith, ranges .capacity e h); at = c .small; busy = c .busy };
-      rooms = long;
+      links = record { room = λ e h. omega (arith, ranges .capacity e h); at = c .small; count = n; busy = c .busy };
+      whole = record { rooms = long; words = c .long; counts = counts };
       rates = ap length q;
       filling =
           filling-begins (problemOf d) (λ s. getD rate s 0) (fixedIn (d .sessions)) none (λ s h. not-one (has s (d .sessions)) (has-lt s (d .sessions)));
       small = one-largest _ (omega (arith, few d));
       declared = λ s h. omega arith;
       at = λ e h s l.
-          let r = at-first (crossesOf (d .path) e s) (has s (d .sessions)) (has s (getD (words .at) e 0)) (has-lt s _) (c .word e h s l) in (
+          let r = at-first (crossesOf (d .path) e s) (has s (d .sessions)) (has s (getD at e 0)) (has-lt s _) (c .word e h s l) in (
             λ t. r .0 (subst T (on-link (problemOf d) e s h) t),
             λ t. r .1 (subst (λ v. T (not v)) (on-link (problemOf d) e s h) t),
           );
@@ -107,5 +108,5 @@ module _ (d : Declared) (z : Fill) (run : Running d z) where
         full = full;
         spent = spent;
         rates = run .rates;
-        rooms = run .rooms;
+        rooms = run .whole .rooms;
       }

@@ -1,6 +1,6 @@
 -- The words of the sessions that cross each link: one byte of a path more, and one session more.
 -- Assumes nothing.
-use mathlib.Core.Bool.{Bool, false, true, cond}
+use mathlib.Core.Bool.{Bool, _||_, false, true, cond}
 use mathlib.Core.List.{List}
 use mathlib.Core.Path.{_≡_, refl, sym, ap, _∙_, subst}
 use Prim.Native.Nat.{ℕ, _+_, _-_, _*_, _<_, _≤_}
@@ -16,10 +16,9 @@ use Rattle.fairness.specs.Figure1.{any}
 use Rattle.fairness.specs.Sum.{part}
 use Rattle.fairness.proofs.Anys.{any-next}
 use Rattle.fairness.proofs.Parts.{part-zero}
-use Rattle.filling.specs.Crossings.{Crossing, WithPath}
+use Rattle.filling.specs.Crossings.{Crossing, Joins, Words, wordsOf}
 use Rattle.filling.specs.Lines.{crossesOf}
 use Rattle.filling.specs.SmallestShare.{Busy}
-use Rattle.filling.specs.declared.Words.{Words}
 
 -- THE PATH OF ONE SESSION ---------------------------------------------------------------------------------------------
 
@@ -27,61 +26,59 @@ use Rattle.filling.specs.declared.Words.{Words}
 abbrev pub some-hop : List ℕ → ℕ → ℕ → ℕ → Bool
 some-hop path s h e = any h (λ i. eqb (getD path (s * 8 + i) 0) e)
 
--- session s is put at the links of the first h bytes of its path
-pub record Hops (path : List ℕ) (s : ℕ) (old : Words) (h : ℕ) (now : Words) : Type 0 where
-  pub long : length (now .at) ≡ 64
-  pub word : (e : ℕ) → e < 64 → getD (now .at) e 0 ≡ cond (some-hop path s h e) (put s (getD (old .at) e 0)) (getD (old .at) e 0)
-  pub busy : Busy (old .busy) (old .at) → Busy (now .busy) (now .at)
+-- nobody comes to a byte that is no link
+pub joins-skip : (e s : ℕ) (k : Words) → length (k .at) ≡ 64 → 64 ≤ e → Joins (eqb e) s k k
+joins-skip e s k long h =
+    record { long = long; word = λ j l. rw (ne-eqb e j (λ q. omega arith)) refl; busy = λ b. b }
 
-pub hops-none : (path : List ℕ) (s : ℕ) (old : Words) → length (old .at) ≡ 64 → Hops path s old 0 old
-unfolding any
-hops-none path s old long = record { long = long; word = λ e h. refl; busy = λ b. b }
-
-put-pick : (t : Bool) (s w : ℕ) → put s (cond t (put s w) w) ≡ put s w
-put-pick true s w = put-put s w
-put-pick false s w = refl
-
-module _ (path : List ℕ) (s : ℕ) (old : Words) (h : ℕ) (now : Words) (b : ℕ) (q : b ≡ getD path (s * 8 + h) 0) (w : Hops path s old h now) where
-  hop-miss : (e : ℕ) → e < 64 → (b ≡ e → ⊥) → getD (now .at) e 0 ≡ cond (some-hop path s (h + 1) e) (put s (getD (old .at) e 0)) (getD (old .at) e 0)
-  hop-miss e k n =
-      let t : eqb (getD path (s * 8 + h) 0) e ≡ false = ne-eqb (getD path (s * 8 + h) 0) e (λ x. n (q ∙ x)) in
-      rw (any-next h (λ i. eqb (getD path (s * 8 + i) 0) e), t) (w .word e k)
-
-  -- a byte that is no link
-  pub hops-skip : 64 ≤ b → Hops path s old (h + 1) now
-  hops-skip high = record { long = w .long; word = λ e k. hop-miss e k (λ x. omega arith); busy = w .busy }
-
-  -- a byte that is a link
-  pub hops-turn : b < 64 → (at busy : ℕ) → at ≡ put s (getD (now .at) b 0) → busy ≡ put b (now .busy)
-      → Hops path s old (h + 1) (record { busy = busy; at = set (now .at) b at })
-  hops-turn low at busy f g =
-      record {
-        long = length-set (now .at) b at ∙ w .long;
-        word = λ e k. word e k (ℕ-discrete b e);
-        busy = λ o e k z. busy-at o e k z (ℕ-discrete b e);
-      }
-    where
-      word : (e : ℕ) → e < 64 → Dec (b ≡ e)
-          → getD (set (now .at) b at) e 0 ≡ cond (some-hop path s (h + 1) e) (put s (getD (old .at) e 0)) (getD (old .at) e 0)
-      word e k (yes x) =
-          let t : eqb (getD path (s * 8 + h) 0) e ≡ true = eq-eqb (getD path (s * 8 + h) 0) e (sym q ∙ x) in
-          rw (any-next h (λ i. eqb (getD path (s * 8 + i) 0) e), t, x)
-          (getD-set-same (now .at) e at 0 (omega (arith, w .long)) ∙ f ∙ ap (λ (y : ℕ). put s (getD (now .at) y 0)) x ∙ ap (put s) (w .word e k)
-          ∙ put-pick (some-hop path s h e) s (getD (old .at) e 0))
-      word e k (no n) = getD-set-other (now .at) b e at 0 (λ x. n (sym x)) ∙ hop-miss e k n
-
-      busy-at : Busy (old .busy) (old .at) → (e : ℕ) → e < 64 → has e busy ≡ 0 → Dec (b ≡ e) → getD (set (now .at) b at) e 0 ≡ 0
-      busy-at o e k z (yes x) = absurd (omega (arith, z, ap (has e) g, ap (λ (y : ℕ). has e (put y (now .busy))) x, has-put-same e (now .busy)))
-      busy-at o e k z (no n) =
-          getD-set-other (now .at) b e at 0 (λ x. n (sym x)) ∙ w .busy o e k (sym (has-put-other b e (now .busy) n) ∙ sym (ap (has e) g) ∙ z)
-
-pub hops-all : (path : List ℕ) (s : ℕ) (old : Words) (h : ℕ) (now : Words) → h ≡ 8 → Hops path s old h now → WithPath old path s now
-hops-all path s old h now q w =
+-- session s comes to a byte that is a link
+pub joins-one : (e s : ℕ) (k : Words) (w busy : ℕ) → length (k .at) ≡ 64 → e < 64 → w ≡ put s (getD (k .at) e 0) → busy ≡ put e (k .busy)
+    → Joins (eqb e) s k (wordsOf busy (set (k .at) e w))
+joins-one e s k w busy long low f g =
     record {
-      long = w .long;
-      word = λ e k. w .word e k ∙ ap (λ (v : ℕ). cond (some-hop path s v e) (put s (getD (old .at) e 0)) (getD (old .at) e 0)) q;
-      busy = w .busy;
+      long = length-set (k .at) e w ∙ long;
+      word = λ j l. word j (ℕ-discrete e j);
+      busy = λ o j l z. busy-at o j l z (ℕ-discrete e j);
     }
+  where
+    word : (j : ℕ) → Dec (e ≡ j) → getD (set (k .at) e w) j 0 ≡ cond (eqb e j) (put s (getD (k .at) j 0)) (getD (k .at) j 0)
+    word j (yes x) =
+        rw (eq-eqb e j x)
+        (ap (λ (y : ℕ). getD (set (k .at) e w) y 0) (sym x) ∙ getD-set-same (k .at) e w 0 (omega (arith, long)) ∙ f
+        ∙ ap (λ (y : ℕ). put s (getD (k .at) y 0)) x)
+    word j (no n) = rw (ne-eqb e j n) (getD-set-other (k .at) e j w 0 (λ x. n (sym x)))
+
+    busy-at : Busy (k .busy) (k .at) → (j : ℕ) → j < 64 → has j busy ≡ 0 → Dec (e ≡ j) → getD (set (k .at) e w) j 0 ≡ 0
+    busy-at o j l z (yes x) = absurd (omega (arith, z, ap (has j) g, ap (λ (y : ℕ). has j (put y (k .busy))) x, has-put-same j (k .busy)))
+    busy-at o j l z (no n) =
+        getD-set-other (k .at) e j w 0 (λ x. n (sym x)) ∙ o j l (sym (has-put-other e j (k .busy) n) ∙ sym (ap (has j) g) ∙ z)
+
+pub joins-none : (path : List ℕ) (s : ℕ) (k : Words) → length (k .at) ≡ 64 → Joins (some-hop path s 0) s k k
+unfolding any
+joins-none path s k long = record { long = long; word = λ e h. refl; busy = λ b. b }
+
+put-twice : (t u : Bool) (s w : ℕ) → cond t (put s (cond u (put s w) w)) (cond u (put s w) w) ≡ cond (t || u) (put s w) w
+put-twice true true s w = put-put s w
+put-twice true false s w = refl
+put-twice false u s w = refl
+
+-- one byte of the path more
+pub joins-next : (path : List ℕ) (s h : ℕ) (k m r : Words) (e : ℕ) → e ≡ getD path (s * 8 + h) 0 → Joins (some-hop path s h) s k m → Joins (eqb e) s m r
+    → Joins (some-hop path s (h + 1)) s k r
+joins-next path s h k m r e q a b =
+    record {
+      long = b .long;
+      word = λ j l.
+          b .word j l
+          ∙ ap (λ (y : ℕ). cond (eqb e j) (put s y) y) (a .word j l)
+          ∙ put-twice (eqb e j) (some-hop path s h j) s (getD (k .at) j 0)
+          ∙ ap (λ (v : Bool). cond v (put s (getD (k .at) j 0)) (getD (k .at) j 0))
+          (ap (λ (y : ℕ). eqb y j || some-hop path s h j) q ∙ sym (any-next h (λ i. eqb (getD path (s * 8 + i) 0) j)));
+      busy = λ o. b .busy (a .busy o);
+    }
+
+pub joins-all : (path : List ℕ) (s h : ℕ) (k r : Words) → h ≡ 8 → Joins (some-hop path s h) s k r → Joins (λ e. crossesOf path e s) s k r
+joins-all path s h k r q a = subst (λ (v : ℕ). Joins (some-hop path s v) s k r) q a
 
 -- ALL SESSIONS --------------------------------------------------------------------------------------------------------
 
@@ -105,7 +102,7 @@ new-small true t a h k = omega (arith, put-lt 32 t a h (omega arith))
 new-small false t a h k = k
 
 pub placed-turn : (path : List ℕ) (sessions left t v : ℕ) (now r : Words) → t < 32 → has t left ≡ 1 → has t sessions ≡ 1 → v ≡ cut t left
-    → WithPath now path t r → Placed path sessions left now → Placed path sessions v r
+    → Joins (λ e. crossesOf path e t) t now r → Placed path sessions left now → Placed path sessions v r
 placed-turn path sessions left t v now r ht hl hs q w p =
     record {
       long = w .long;
@@ -146,6 +143,7 @@ placed-none path sessions now q =
 pub placed-all : (path : List ℕ) (sessions left : ℕ) (now : Words) → left ≡ 0 → Placed path sessions left now → Crossing path sessions now
 placed-all path sessions left now q p =
     record {
+      long = p .long;
       small = p .small;
       word = λ e k s l.
           let z : has s left ≡ 0 = ap (has s) q ∙ has-zero s in

@@ -3,10 +3,12 @@ mod Visits
 mod SmallestShare
 mod SmallestOfAll
 mod Crossings
+mod Leaving
+mod Rates
 mod OpenSessions
-mod OneLink
 mod Chosen
 mod RoundOfFigure1
+mod LinksOfRound
 mod AfterRound
 mod BeginAndEnd
 pub mod Uniqueness

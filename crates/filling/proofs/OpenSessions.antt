@@ -28,8 +28,8 @@ use Rattle.fairness.proofs.Parts.{part-is}
 use Rattle.declarations.specs.declared.Declared.{Declared}
 use Rattle.filling.specs.Lines.{problemOf}
 use Rattle.filling.specs.OneRound.{Running, fixedIn}
-use Rattle.filling.specs.SmallestShare.{limitsOf, roomOf, wordOf}
-use Rattle.filling.specs.declared.Fill.{Fill}
+use Rattle.filling.specs.SmallestShare.{countOf, limitsOf, roomOf, wordOf}
+use Rattle.filling.specs.State.{Fill}
 
 -- DIGITS AS TESTS -----------------------------------------------------------------------------------------------------
 
@@ -98,7 +98,7 @@ module _ (d : Declared) (z : Fill) (run : Running d z) where
   fixed = fixedIn (z .opens)
 
   abbrev R : ℕ → ℕ
-  R = roomOf (z .links) (z .den) (limitsOf (d .access) (d .maximum))
+  R = roomOf (z .links .room) (z .den) (limitsOf (d .access) (d .maximum))
 
   abbrev W : ℕ → ℕ
   W = wordOf (z .links) (z .opens)
@@ -134,16 +134,31 @@ module _ (d : Declared) (z : Fill) (run : Running d z) where
       ∙ sym (ones-sum 32 (getD (z .links .at) e 0) (omega (arith, run .links .at e h)))
       ∙ sym (ap ones (word-link e h))
 
-  open-limit : (j : ℕ) → j < 32 → openAt w fixed (64 + j) ≡ ones (W (64 + j))
-  unfolding problemOf
-  open-limit j h = open-own (problemOf d) fixed j h ∙ open-part (has j (z .opens)) (has-lt j (z .opens)) ∙ go (has-or-not j (z .opens))
+  own-ones : (j : ℕ) → has j (z .opens) ≡ ones (W (64 + j))
+  own-ones j = go (has-or-not j (z .opens))
     where
       go : (has j (z .opens) ≡ 0) ⊎ (has j (z .opens) ≡ 1) → has j (z .opens) ≡ ones (W (64 + j))
       go (inl q) = q ∙ sym (ap ones (word-shut j q) ∙ ones-zero)
       go (inr q) = q ∙ sym (ap ones (word-open j q) ∙ ones-two j)
 
+  open-limit : (j : ℕ) → j < 32 → openAt w fixed (64 + j) ≡ ones (W (64 + j))
+  unfolding problemOf
+  open-limit j h = open-own (problemOf d) fixed j h ∙ open-part (has j (z .opens)) (has-lt j (z .opens)) ∙ own-ones j
+
   pub open-is : (e : ℕ) → e < 96 → openAt w fixed e ≡ ones (W e)
   open-is = each (λ e. openAt w fixed e ≡ ones (W e)) open-link open-limit
+
+  -- the count that is kept is the count of ones
+  pub count-is : (e : ℕ) → e < 96 → countOf (z .links .count) (z .opens) e ≡ ones (W e)
+  count-is = each (λ e. countOf (z .links .count) (z .opens) e ≡ ones (W e)) link own
+    where
+      link : (e : ℕ) → e < 64 → countOf (z .links .count) (z .opens) e ≡ ones (W e)
+      link e h = rw (lt-ltb e 64 h) (run .links .count e h)
+
+      own : (j : ℕ) → j < 32 → countOf (z .links .count) (z .opens) (64 + j) ≡ ones (W (64 + j))
+      own j h =
+          let q : countOf (z .links .count) (z .opens) (64 + j) ≡ has j (z .opens) = rw (le-ltb (64 + j) 64 (omega arith), add-sub-cancel-left 64 j) in
+          q ∙ own-ones j
 
   -- the room is what is left, at a link with somebody open
   left-link : (e : ℕ) → e < 64 → 0 < W e → leftAt w (z .den) x e ≡ R e

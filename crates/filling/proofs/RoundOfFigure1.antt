@@ -8,7 +8,7 @@ use Prim.Native.Nat.{ℕ, _+_, _-_, _*_, _^_, _<_, _≤_, min}
 use native.Mathlib.Nat.{mul-le-mul, mul-le-mul-left}
 use native.Mathlib.Omega.{arith}
 use borrow.Author.Tests.{eq-eqb, ne-eqb}
-use lib.Bits.{bitAnd}
+use lib.Bits.{and-le-l, bitAnd}
 use lib.Count.{ones, trailingZeros}
 use lib.Dec.{eqb, eqb→eq}
 use lib.ListN.{getD}
@@ -29,9 +29,9 @@ use Rattle.declarations.specs.declared.Declared.{Declared}
 use Rattle.filling.specs.Lines.{problemOf}
 use Rattle.filling.specs.OneRound.{RatesAfter, Running, fixedIn, rateAfter}
 use Rattle.filling.specs.SmallestShare.{GivenAmong, limitsOf, partsLimit, roomOf, wordOf}
-use Rattle.filling.specs.declared.Fill.{Fill}
+use Rattle.filling.specs.State.{Fill}
 use Rattle.filling.specs.declared.Given.{Given}
-use Rattle.filling.proofs.OpenSessions.{T-not-one, T-one, few, is-member, left-is, member, open-T, open-is, room-link, word-link, word-lt, word-open}
+use Rattle.filling.proofs.OpenSessions.{T-not-one, T-one, T-open, few, is-member, left-is, member, open-T, open-is, room-link, word-link, word-lt, word-open}
 
 -- the sessions that are open after a round
 abbrev pub openAfter : ℕ → Given → ℕ
@@ -58,7 +58,7 @@ module _ (d : Declared) (z : Fill) (run : Running d z) where
   fixed = fixedIn (z .opens)
 
   abbrev R : ℕ → ℕ
-  R = roomOf (z .links) (z .den) (limitsOf (d .access) (d .maximum))
+  R = roomOf (z .links .room) (z .den) (limitsOf (d .access) (d .maximum))
 
   abbrev W : ℕ → ℕ
   W = wordOf (z .links) (z .opens)
@@ -98,12 +98,31 @@ module _ (d : Declared) (z : Fill) (run : Running d z) where
         let a = best .some s h q in
         open-T (has s (z .opens)) (has-lt s (z .opens)) (member d z run (a .0) (a .1) s h (a .2) .1)
 
-    pub undeclared : (s : ℕ) → s < 32 → has s (d .sessions) ≡ 0 → (x s ≡ 0) × (has s (l .chosen) ≡ 0)
+    undeclared : (s : ℕ) → s < 32 → has s (d .sessions) ≡ 0 → (x s ≡ 0) × (has s (l .chosen) ≡ 0)
     undeclared s h q = (no-rate s h q, go (has-or-not s (l .chosen)))
       where
         go : (has s (l .chosen) ≡ 0) ⊎ (has s (l .chosen) ≡ 1) → has s (l .chosen) ≡ 0
         go (inl n) = n
         go (inr c) = absurd (omega (arith, chosen-open s h c, run .declared s h))
+
+    -- who is not declared, or is still open after the round, has no rate and gets none
+    pub others : l .chosen < 2 ^ 32 → (s : ℕ) → s < 32 → has s (bitAnd (d .sessions) ((2 ^ 32 - 1) - openAfter (z .opens) l)) ≡ 0
+        → (x s ≡ 0) × (has s (l .chosen) ≡ 0)
+    unfolding net problemOf
+    others small-word s h q = go (has-or-not s (d .sessions))
+      where
+        after : has s (openAfter (z .opens) l) ≡ min (has s (z .opens)) (1 - has s (l .chosen))
+        after = has-without 32 s (z .opens) (l .chosen) h small-word
+
+        opens-lt : openAfter (z .opens) l < 2 ^ 32
+        opens-lt = omega (arith, and-le-l (z .opens) ((2 ^ 32 - 1) - l .chosen), run .word)
+
+        go : (has s (d .sessions) ≡ 0) ⊎ (has s (d .sessions) ≡ 1) → (x s ≡ 0) × (has s (l .chosen) ≡ 0)
+        go (inl n) = undeclared s h n
+        go (inr m) =
+            let o = has-without 32 s (d .sessions) (openAfter (z .opens) l) h opens-lt in
+            let is-open : has s (z .opens) ≡ 1 = omega (arith, q, o, m, after, has-lt s (z .opens), has-lt s (l .chosen)) in
+            (run .filling .none-yet s h (T-open (has s (z .opens)) is-open), omega (arith, q, o, m, after, has-lt s (z .opens), has-lt s (l .chosen)))
 
     -- THE ROUND -------------------------------------------------------------------------------------------------------
 

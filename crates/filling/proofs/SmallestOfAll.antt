@@ -1,5 +1,6 @@
 -- The smallest share among the links that have one, and among the own limits: the loops over the members of a set.
 -- Assumes nothing.
+use mathlib.Core.List.{List}
 use mathlib.Core.Logic.{_⊎_, inl, inr}
 use mathlib.Core.Path.{_≡_, sym, ap, ap₂, _∙_, subst}
 use Prim.Native.Nat.{ℕ, _+_, _-_, _*_, _^_, _<_, _≤_}
@@ -11,8 +12,7 @@ use Rattle.sessions.specs.Set.{cut, has}
 use Rattle.sessions.proofs.Members.{has-cut-other, has-zero}
 use Rattle.sessions.proofs.Operations.{has-two-other, has-two-same}
 use Rattle.fractions.proofs.Cases.{order}
-use Rattle.filling.specs.SmallestShare.{Busy, SmallestAmong, below, bitOf, roomOf, smallerOf, wordOf}
-use Rattle.filling.specs.declared.Links.{Links}
+use Rattle.filling.specs.SmallestShare.{Busy, SmallestAmong, below, bitOf, countOf, roomOf, smallerOf}
 use Rattle.filling.specs.declared.Smallest.{Smallest}
 use Rattle.filling.proofs.SmallestShare.{Only, best-dead, best-none, best-sub, best-turn, nothing, or-new}
 
@@ -43,20 +43,20 @@ abbrev pub seen-links : ℕ → ℕ → Type 0
 seen-links left e = (e < 64) × (has e left ≡ 0)
 
 -- the links that are not busy have no share
-pub best-first : (k : Links) (den opens : ℕ) (D : ℕ → ℕ) → Busy (k .busy) (k .at)
-    → SmallestAmong (seen-links (k .busy)) (roomOf k den D) (wordOf k opens) nothing
-best-first k den opens D busy =
-    best-sub (λ e. ⊥ ⊎ (wordOf k opens e ≡ 0)) (seen-links (k .busy)) _ _ nothing (λ e h. inr (rw (lt-ltb e 64 (h .0)) (busy e (h .0) (h .1))))
-    (best-dead (λ e. ⊥) (roomOf k den D) (wordOf k opens) nothing (best-none (λ e. ⊥) _ _ (λ e h. h)))
+pub best-first : (room count : List ℕ) (set den opens : ℕ) (D : ℕ → ℕ) → Busy set count
+    → SmallestAmong (seen-links set) (roomOf room den D) (countOf count opens) nothing
+best-first room count set den opens D busy =
+    best-sub (λ e. ⊥ ⊎ (countOf count opens e ≡ 0)) (seen-links set) _ _ nothing (λ e h. inr (rw (lt-ltb e 64 (h .0)) (busy e (h .0) (h .1))))
+    (best-dead (λ e. ⊥) (roomOf room den D) (countOf count opens) nothing (best-none (λ e. ⊥) _ _ (λ e h. h)))
 
-pub best-link : (k : Links) (den opens : ℕ) (D : ℕ → ℕ) (left e v link : ℕ) (l r : Smallest) → e < 64 → v ≡ cut e left → link ≡ 2 ^ e
-    → r ≡ smallerOf l (getD (k .room) e 0) (getD (k .at) e 0) 0 link
-    → SmallestAmong (seen-links left) (roomOf k den D) (wordOf k opens) l → SmallestAmong (seen-links v) (roomOf k den D) (wordOf k opens) r
-best-link k den opens D left e v link l r h f g q b =
-    subst (SmallestAmong (seen-links v) (roomOf k den D) (wordOf k opens))
-    (rw (lt-ltb e 64 h) (sym (q ∙ ap (smallerOf l (getD (k .room) e 0) (getD (k .at) e 0) 0) g)))
+pub best-link : (room count : List ℕ) (den opens : ℕ) (D : ℕ → ℕ) (left e v link : ℕ) (l r : Smallest) → e < 64 → v ≡ cut e left → link ≡ 2 ^ e
+    → r ≡ smallerOf l (getD room e 0) (getD count e 0) 0 link
+    → SmallestAmong (seen-links left) (roomOf room den D) (countOf count opens) l → SmallestAmong (seen-links v) (roomOf room den D) (countOf count opens) r
+best-link room count den opens D left e v link l r h f g q b =
+    subst (SmallestAmong (seen-links v) (roomOf room den D) (countOf count opens))
+    (rw (lt-ltb e 64 h) (sym (q ∙ ap (smallerOf l (getD room e 0) (getD count e 0) 0) g)))
     (best-sub (or-new (seen-links left) e) (seen-links v) _ _ _ (λ j m. seen j m (ℕ-discrete e j))
-    (best-turn (seen-links left) (roomOf k den D) (wordOf k opens) l b e (omega arith) 0 (2 ^ e) (only-link e h)))
+    (best-turn (seen-links left) (roomOf room den D) (countOf count opens) l b e (omega arith) 0 (2 ^ e) (only-link e h)))
   where
     seen : (j : ℕ) → seen-links v j → Dec (e ≡ j) → or-new (seen-links left) e j
     seen j m (yes x) = inr (sym x)
@@ -72,35 +72,35 @@ abbrev pub seen : ℕ → ℕ → Type 0
 seen left e = (e < 64) ⊎ ((e < 96) × (has (e - 64) left ≡ 0))
 
 -- the own limits of the sessions that are fixed have no share
-pub best-start : (k : Links) (den opens : ℕ) (D : ℕ → ℕ) (l : Smallest) → SmallestAmong (below 64) (roomOf k den D) (wordOf k opens) l
-    → SmallestAmong (seen opens) (roomOf k den D) (wordOf k opens) l
-best-start k den opens D l b = best-sub _ (seen opens) _ _ l (λ e. shut e) (best-dead (below 64) _ _ l b)
+pub best-start : (room count : List ℕ) (den opens : ℕ) (D : ℕ → ℕ) (l : Smallest) → SmallestAmong (below 64) (roomOf room den D) (countOf count opens) l
+    → SmallestAmong (seen opens) (roomOf room den D) (countOf count opens) l
+best-start room count den opens D l b = best-sub _ (seen opens) _ _ l (λ e. shut e) (best-dead (below 64) _ _ l b)
   where
-    shut : (e : ℕ) → seen opens e → below 64 e ⊎ (wordOf k opens e ≡ 0)
+    shut : (e : ℕ) → seen opens e → below 64 e ⊎ (countOf count opens e ≡ 0)
     shut e (inl h) = inl h
     shut e (inr h) = go (order 64 e)
       where
-        go : (64 ≤ e) ⊎ (e < 64) → below 64 e ⊎ (wordOf k opens e ≡ 0)
+        go : (64 ≤ e) ⊎ (e < 64) → below 64 e ⊎ (countOf count opens e ≡ 0)
         go (inr l) = inl l
-        go (inl l) = inr (rw (le-ltb e 64 l, h .1) (omega arith))
+        go (inl l) = inr (rw (le-ltb e 64 l) (h .1))
 
-pub best-own : (k : Links) (den opens : ℕ) (D : ℕ → ℕ) (left s v own : ℕ) (l r : Smallest) → s < 32 → has s opens ≡ 1 → v ≡ cut s left → own ≡ 2 ^ s
-    → r ≡ smallerOf l (den * D s) own own 0
-    → SmallestAmong (seen left) (roomOf k den D) (wordOf k opens) l → SmallestAmong (seen v) (roomOf k den D) (wordOf k opens) r
-best-own k den opens D left s v own l r h t f g q b =
-    subst (SmallestAmong (seen v) (roomOf k den D) (wordOf k opens))
-    (ap₂ (λ (x y : ℕ). smallerOf l x y (2 ^ s) 0) room-is word-is ∙ ap (λ (y : ℕ). smallerOf l (den * D s) own y 0) (sym g) ∙ sym q)
+pub best-own : (room count : List ℕ) (den opens : ℕ) (D : ℕ → ℕ) (left s v own : ℕ) (l r : Smallest) → s < 32 → has s opens ≡ 1 → v ≡ cut s left → own ≡ 2 ^ s
+    → r ≡ smallerOf l (den * D s) 1 own 0
+    → SmallestAmong (seen left) (roomOf room den D) (countOf count opens) l → SmallestAmong (seen v) (roomOf room den D) (countOf count opens) r
+best-own room count den opens D left s v own l r h t f g q b =
+    subst (SmallestAmong (seen v) (roomOf room den D) (countOf count opens))
+    (ap₂ (λ (x y : ℕ). smallerOf l x y (2 ^ s) 0) room-is count-is ∙ ap (λ (y : ℕ). smallerOf l (den * D s) 1 y 0) (sym g) ∙ sym q)
     (best-sub (or-new (seen left) (64 + s)) (seen v) _ _ _ (λ e. new e)
-    (best-turn (seen left) (roomOf k den D) (wordOf k opens) l b (64 + s) (omega arith) (2 ^ s) 0 (only-own s h)))
+    (best-turn (seen left) (roomOf room den D) (countOf count opens) l b (64 + s) (omega arith) (2 ^ s) 0 (only-own s h)))
   where
     back : 64 + s - 64 ≡ s
     back = omega arith
 
-    room-is : roomOf k den D (64 + s) ≡ den * D s
+    room-is : roomOf room den D (64 + s) ≡ den * D s
     room-is = rw (le-ltb (64 + s) 64 (omega arith), back)
 
-    word-is : wordOf k opens (64 + s) ≡ own
-    word-is = rw (le-ltb (64 + s) 64 (omega arith), back, t, g) (omega arith)
+    count-is : countOf count opens (64 + s) ≡ 1
+    count-is = rw (le-ltb (64 + s) 64 (omega arith), back) t
 
     new : (e : ℕ) → seen v e → or-new (seen left) (64 + s) e
     new e (inl m) = inl (inl m)

@@ -2,8 +2,9 @@
 -- Assumes nothing: definitions.
 use mathlib.Core.Bool.{Bool, not, cond}
 use mathlib.Core.List.{List}
+use mathlib.Core.Logic.{_⊎_}
 use mathlib.Core.Path.{_≡_}
-use Prim.Native.Nat.{ℕ, _*_, _+_, _-_, _<_, _≤_, _^_}
+use Prim.Native.Nat.{ℕ, _*_, _+_, _-_, _<_, _≤_, min}
 use lib.Bits.{bitAnd}
 use lib.Count.{ones}
 use lib.Dec.{T, eqb}
@@ -13,41 +14,75 @@ use Rattle.fairness.specs.Figure1.{leftAt, loadAt, net}
 use Rattle.fairness.proofs.Rounds.{Filling}
 use Rattle.fairness.proofs.Denominators.{SmallDenominator}
 use Rattle.declarations.specs.declared.Declared.{Declared}
-use Rattle.filling.specs.Lines.{Ranges, problemOf}
-use Rattle.filling.specs.SmallestShare.{Busy, LinksFit, partsLimit}
-use Rattle.filling.specs.declared.Fill.{Fill}
+use Rattle.filling.specs.Lines.{Ranges, crossesOf, problemOf}
+use Rattle.filling.specs.SmallestShare.{Busy, Counted, LinksFit, partsLimit}
+use Rattle.filling.specs.State.{Fill, Links}
 use Rattle.filling.specs.declared.Given.{Given}
-use Rattle.filling.specs.declared.Link.{Link}
-use Rattle.filling.specs.declared.Links.{Links}
 
--- the share goes out once for each session that gets it, and these are no longer open; a link with nobody open stays as it is
-unfoldable pub linkAfter : Given → ℕ → ℕ → Link
-linkAfter l room at =
-    cond (eqb at 0) (record { room = room; at = at })
-    (record { room = room * l .count - l .room * ones (bitAnd at (l .chosen)); at = bitAnd at ((2 ^ 32 - 1) - l .chosen) })
+-- the rooms of the busy links over a denominator that is so many times as large
+pub record Grown (busy by : ℕ) (room r : List ℕ) : Type 0 where
+  pub long : length r ≡ length room
+  pub at : (e : ℕ) → e < 64 → has e busy ≡ 1 → getD r e 0 ≡ getD room e 0 * by
+  pub other : (e : ℕ) → e < 64 → has e busy ≡ 0 → getD r e 0 ≡ getD room e 0
 
--- link e is busy no more once nobody is open there
-unfoldable pub busyAfter : ℕ → ℕ → ℕ → ℕ
-busyAfter busy at e = cond (eqb at 0) (cut e busy) busy
+-- the arrays have a place for each link
+pub record Whole (k : Links) : Type 0 where
+  pub rooms : length (k .room) ≡ 64
+  pub words : length (k .at) ≡ 64
+  pub counts : length (k .count) ≡ 64
 
--- every link has enough left to give the share to all its open sessions
-abbrev pub Enough : Links → Given → Type 0
-Enough k l = (e : ℕ) → e < 64 → 0 < getD (k .at) e 0 → l .room * ones (getD (k .at) e 0) ≤ getD (k .room) e 0 * l .count
+-- r is k without session s at the links of `there`, where a share goes out for each session that leaves a link
+pub record Leaves (there : ℕ → Bool) (s share : ℕ) (k r : Links) : Type 0 where
+  pub at : (e : ℕ) → e < 64 → getD (r .at) e 0 ≡ cond (there e) (cut s (getD (k .at) e 0)) (getD (k .at) e 0)
+  pub room : (e : ℕ) → e < 64 → getD (r .room) e 0 + share * ones (getD (k .at) e 0) ≡ getD (k .room) e 0 + share * ones (getD (r .at) e 0)
+  pub count : (e : ℕ) → e < 64 → getD (r .count) e 0 + ones (getD (k .at) e 0) ≡ getD (k .count) e 0 + ones (getD (r .at) e 0)
+  pub busy : Busy (k .busy) (k .at) → Busy (r .busy) (r .at)
+  pub long : Whole k → Whole r
 
+-- each link of `there` where session s is open has a share left for it
+abbrev pub Leavable : (ℕ → Bool) → ℕ → ℕ → Links → Type 0
+Leavable there s share k =
+    (e : ℕ) → e < 64 → T (there e) → has s (getD (k .at) e 0) ≡ 1 → (share ≤ getD (k .room) e 0) × (0 < getD (k .count) e 0)
+
+-- r is k without the chosen sessions at the links of their paths
+pub record Without (path : List ℕ) (chosen share : ℕ) (k r : Links) : Type 0 where
+  pub stays : (e : ℕ) → e < 64 → (t : ℕ) → has t chosen ≡ 0 → has t (getD (r .at) e 0) ≡ has t (getD (k .at) e 0)
+  pub gone : (e : ℕ) → e < 64 → (t : ℕ) → t < 32 → has t chosen ≡ 1 → T (crossesOf path e t) → has t (getD (r .at) e 0) ≡ 0
+  pub fewer : (e : ℕ) → e < 64 → (t : ℕ) → has t (getD (r .at) e 0) ≤ has t (getD (k .at) e 0)
+  pub small : (e : ℕ) → e < 64 → getD (r .at) e 0 ≤ getD (k .at) e 0
+  pub room : (e : ℕ) → e < 64 → getD (r .room) e 0 + share * ones (getD (k .at) e 0) ≡ getD (k .room) e 0 + share * ones (getD (r .at) e 0)
+  pub count : (e : ℕ) → e < 64 → getD (r .count) e 0 + ones (getD (k .at) e 0) ≡ getD (k .count) e 0 + ones (getD (r .at) e 0)
+  pub busy : Busy (k .busy) (k .at) → Busy (r .busy) (r .at)
+  pub long : Whole k → Whole r
+
+-- every link has enough left to give the share to all its open sessions, and they are counted
+pub record Enough (share : ℕ) (k : Links) : Type 0 where
+  pub whole : Whole k
+  pub room : (e : ℕ) → e < 64 → 0 < getD (k .at) e 0 → share * ones (getD (k .at) e 0) ≤ getD (k .room) e 0
+  pub count : Counted (k .at) (k .count)
+
+-- the links after a round: the share goes out once for each session that gets it, and these are no longer open; a link with nobody open stays as it is,
+-- or is written over the new denominator
 pub record LinksAfter (k : Links) (l : Given) (r : Links) : Type 0 where
-  pub room : (e : ℕ) → e < 64 → getD (r .room) e 0 ≡ linkAfter l (getD (k .room) e 0) (getD (k .at) e 0) .room
-  pub at : (e : ℕ) → e < 64 → getD (r .at) e 0 ≡ linkAfter l (getD (k .room) e 0) (getD (k .at) e 0) .at
+  pub at : (e : ℕ) → e < 64 → (s : ℕ) → s < 32 → has s (getD (r .at) e 0) ≡ min (has s (getD (k .at) e 0)) (1 - has s (l .chosen))
+  pub small : (e : ℕ) → e < 64 → getD (r .at) e 0 ≤ getD (k .at) e 0
+  pub room : (e : ℕ) → e < 64 → 0 < getD (k .at) e 0
+      → getD (r .room) e 0 + l .room * ones (bitAnd (getD (k .at) e 0) (l .chosen)) ≡ getD (k .room) e 0 * l .count
+  pub still : (e : ℕ) → e < 64 → getD (k .at) e 0 ≡ 0
+      → (getD (r .room) e 0 ≡ getD (k .room) e 0) ⊎ (getD (r .room) e 0 ≡ getD (k .room) e 0 * l .count)
+  pub count : Counted (r .at) (r .count)
   pub busy : Busy (r .busy) (r .at)
-  pub long : length (r .room) ≡ 64
+  pub long : Whole r
 
 -- the chosen get the share; the other rates are written over the new denominator
 unfoldable pub rateAfter : Given → ℕ → ℕ → ℕ
 rateAfter l x s = cond (eqb (has s (l .chosen)) 1) (l .room) (x * l .count)
 
--- rates whose products fit, and a session that is not declared has none and gets none
-pub record RatesFit (x : List ℕ) (sessions : ℕ) (l : Given) : Type 0 where
+-- rates whose products fit; and a session that is not one of these has none and gets none
+pub record RatesFit (x : List ℕ) (these : ℕ) (l : Given) : Type 0 where
+  pub long : length x ≡ 32
   pub small : (s : ℕ) → s < 32 → getD x s 0 ≤ partsLimit
-  pub undeclared : (s : ℕ) → s < 32 → has s sessions ≡ 0 → (getD x s 0 ≡ 0) × (has s (l .chosen) ≡ 0)
+  pub others : (s : ℕ) → s < 32 → has s these ≡ 0 → (getD x s 0 ≡ 0) × (has s (l .chosen) ≡ 0)
 
 pub record RatesAfter (x : List ℕ) (l : Given) (r : List ℕ) : Type 0 where
   pub rate : (s : ℕ) → s < 32 → getD r s 0 ≡ rateAfter l (getD x s 0) s
@@ -62,7 +97,7 @@ pub record Running (d : Declared) (z : Fill) : Type 0 where
   pub ranges : Ranges d
   pub word : z .opens < 4294967296
   pub links : LinksFit (z .links)
-  pub rooms : length (z .links .room) ≡ 64
+  pub whole : Whole (z .links)
   pub rates : length (z .rate) ≡ 32
   -- what holds in Figure 1, and its bound on the denominator
   pub filling : Filling (net (problemOf d)) (z .den) (λ s. getD (z .rate) s 0) (fixedIn (z .opens))

@@ -12,29 +12,32 @@ use lib.Dec.{eqb, ltb}
 use lib.ListN.{getD}
 use Rattle.sessions.specs.Set.{has}
 use Rattle.declarations.specs.Declaring.{ownLimitOf}
+use Rattle.filling.specs.State.{Links}
 use Rattle.filling.specs.declared.Given.{Given}
-use Rattle.filling.specs.declared.Links.{Links}
 use Rattle.filling.specs.declared.Smallest.{Smallest}
 
 -- the share l with the links of two equal shares
 abbrev pub bothOf : Smallest → ℕ → ℕ → Smallest
 bothOf l own link = record { room = l .room; count = l .count; own = bitOr (l .own) own; links = bitOr (l .links) link }
 
--- l, or the share of a link with so much room and these open sessions, where that is smaller; of two equal ones the links of both.
+-- l, or the share of a link with so much room and so many open sessions, where that is smaller; of two equal ones the links of both.
 -- A link with nobody open has no share.
 unfoldable pub smallerOf : Smallest → ℕ → ℕ → ℕ → ℕ → Smallest
-smallerOf l room at own link =
-    cond (eqb at 0) l
-    (cond (ltb (room * l .count) (l .room * ones at)) (record { room = room; count = ones at; own = own; links = link })
-    (cond (eqb (room * l .count) (l .room * ones at)) (bothOf l own link) l))
+smallerOf l room count own link =
+    cond (eqb count 0) l
+    (cond (ltb (room * l .count) (l .room * count)) (record { room = room; count = count; own = own; links = link })
+    (cond (eqb (room * l .count) (l .room * count)) (bothOf l own link) l))
 
 -- the own limits D
 abbrev pub limitsOf : List ℕ → List ℕ → ℕ → ℕ
 limitsOf access maximum s = ownLimitOf (getD access s 0) (getD maximum s 0)
 
--- what is left of each link, and the open sessions there
-abbrev pub roomOf : Links → ℕ → (ℕ → ℕ) → ℕ → ℕ
-roomOf k den D e = cond (ltb e 64) (getD (k .room) e 0) (den * D (e - 64))
+-- what is left of each link, how many sessions are open there, and which
+abbrev pub roomOf : List ℕ → ℕ → (ℕ → ℕ) → ℕ → ℕ
+roomOf room den D e = cond (ltb e 64) (getD room e 0) (den * D (e - 64))
+
+abbrev pub countOf : List ℕ → ℕ → ℕ → ℕ
+countOf count opens e = cond (ltb e 64) (getD count e 0) (has (e - 64) opens)
 
 abbrev pub wordOf : Links → ℕ → ℕ → ℕ
 wordOf k opens e = cond (ltb e 64) (getD (k .at) e 0) (has (e - 64) opens * 2 ^ (e - 64))
@@ -43,21 +46,25 @@ wordOf k opens e = cond (ltb e 64) (getD (k .at) e 0) (has (e - 64) opens * 2 ^ 
 abbrev pub bitOf : ℕ → ℕ → ℕ → ℕ
 bitOf own links e = cond (ltb e 64) (has e links) (has (e - 64) own)
 
--- every link with a session in its word is a member of the set
+-- every link with a session in its word, or in its count, is a member of the set
 abbrev pub Busy : ℕ → List ℕ → Type 0
 Busy busy at = (e : ℕ) → e < 64 → has e busy ≡ 0 → getD at e 0 ≡ 0
+
+-- how many sessions are in each word
+abbrev pub Counted : List ℕ → List ℕ → Type 0
+Counted at count = (e : ℕ) → e < 64 → getD count e 0 ≡ ones (getD at e 0)
 
 abbrev pub below : ℕ → ℕ → Type 0
 below n e = e < n
 
--- l is the smallest of the shares R e / (count of W e) of the links in S, or 1/0, and has exactly those of the links that have it
-pub record SmallestAmong (S : ℕ → Type 0) (R W : ℕ → ℕ) (l : Smallest) : Type 0 where
-  pub low : (e : ℕ) → S e → l .room * ones (W e) ≤ R e * l .count
-  pub from : ((l .room ≡ 1) × (l .count ≡ 0)) ⊎ ((b : ℕ) × (b < 96) × (l .room ≡ R b) × (l .count ≡ ones (W b)) × (0 < W b))
-  pub ok : (e : ℕ) → e < 96 → bitOf (l .own) (l .links) e ≡ 1 → (0 < W e) × (R e * l .count ≡ l .room * ones (W e))
-  pub all : (e : ℕ) → e < 96 → S e → 0 < ones (W e) → R e * l .count ≡ l .room * ones (W e) → bitOf (l .own) (l .links) e ≡ 1
+-- l is the smallest of the shares R e / K e of the links in S, or 1/0, and has exactly those of the links that have it
+pub record SmallestAmong (S : ℕ → Type 0) (R K : ℕ → ℕ) (l : Smallest) : Type 0 where
+  pub low : (e : ℕ) → S e → l .room * K e ≤ R e * l .count
+  pub from : ((l .room ≡ 1) × (l .count ≡ 0)) ⊎ ((b : ℕ) × (b < 96) × (l .room ≡ R b) × (l .count ≡ K b) × (0 < K b))
+  pub ok : (e : ℕ) → e < 96 → bitOf (l .own) (l .links) e ≡ 1 → (0 < K e) × (R e * l .count ≡ l .room * K e)
+  pub all : (e : ℕ) → e < 96 → S e → 0 < K e → R e * l .count ≡ l .room * K e → bitOf (l .own) (l .links) e ≡ 1
 
--- l is the smallest of all shares, and has exactly the open sessions at the links that have it
+-- l is the smallest of all shares R e / (count of W e), and has exactly the open sessions at the links that have it
 pub record GivenAmong (R W : ℕ → ℕ) (l : Given) : Type 0 where
   pub low : (e : ℕ) → e < 96 → l .room * ones (W e) ≤ R e * l .count
   pub from : ((l .room ≡ 1) × (l .count ≡ 0)) ⊎ ((b : ℕ) × (b < 96) × (l .room ≡ R b) × (l .count ≡ ones (W b)) × (0 < W b))
@@ -81,21 +88,29 @@ pub record GivenFits (l : Given) : Type 0 where
   pub count : l .count ≤ 32
   pub chosen : l .chosen < 4294967296
 
--- and every link with an open session is busy
+-- every link with an open session is busy, and the sessions at a link are counted
 pub record LinksFit (k : Links) : Type 0 where
   pub room : (e : ℕ) → e < 64 → getD (k .room) e 0 ≤ partsLimit
   pub at : (e : ℕ) → e < 64 → getD (k .at) e 0 < 4294967296
+  pub count : Counted (k .at) (k .count)
   pub busy : Busy (k .busy) (k .at)
+
+-- what the loop over the busy links asks
+pub record SharesFit (set : ℕ) (rooms counts : List ℕ) : Type 0 where
+  pub room : (e : ℕ) → e < 64 → getD rooms e 0 ≤ partsLimit
+  pub count : (e : ℕ) → e < 64 → getD counts e 0 ≤ 32
+  pub busy : Busy set counts
 
 -- WHAT THE LOOPS FIND -------------------------------------------------------------------------------------------------
 
 -- r is the smallest share among the links
-pub record LeastLink (k : Links) (r : Smallest) : Type 0 where
+pub record LeastLink (room count : List ℕ) (r : Smallest) : Type 0 where
   pub fits : SmallestFits r
-  pub among : (den opens : ℕ) (D : ℕ → ℕ) → SmallestAmong (below 64) (roomOf k den D) (wordOf k opens) r
+  pub among : (den opens : ℕ) (D : ℕ → ℕ) → SmallestAmong (below 64) (roomOf room den D) (countOf count opens) r
 
 -- r is the smallest share of all, where l is the smallest among the links
 pub record LeastOwn (l : Smallest) (den opens : ℕ) (access maximum : List ℕ) (r : Smallest) : Type 0 where
   pub fits : SmallestFits r
-  pub among : (k : Links) → SmallestAmong (below 64) (roomOf k den (limitsOf access maximum)) (wordOf k opens) l
-      → SmallestAmong (below 96) (roomOf k den (limitsOf access maximum)) (wordOf k opens) r
+  pub among : (room count : List ℕ)
+      → SmallestAmong (below 64) (roomOf room den (limitsOf access maximum)) (countOf count opens) l
+      → SmallestAmong (below 96) (roomOf room den (limitsOf access maximum)) (countOf count opens) r

@@ -1,32 +1,18 @@
-// The direct calculation (01; 001, Figure 1), over one common denominator: the rates fixed so far, and what is left of the links, are whole
-// numbers of parts 1/den. So a round takes a multiplication, a count of ones and a subtraction for each link, and reduces no fraction.
+// The direct calculation (01; 001, Figure 1), over one common denominator: the rates fixed so far, and what is left of the links, are whole numbers
+// of parts 1/den. So what a round changes is a multiplication for each link that has a session not yet fixed, where the denominator grows, and a
+// subtraction for each link of a session that it fixes; it reduces no fraction.
 ghost use mathlib.Core.Path.{_≡_};
 ghost use Prim.Native.Nat.{ℕ, _*_, _≤_, _<_};
-ghost use lib.Count.{ones};
+ghost use lib.Dec.{eqb};
 ghost use lib.ListN.{getD, length, replicate};
 ghost use Rattle.fractions.specs.Fraction.{maxRate};
-ghost use Rattle.filling.specs.Crossings.{Crossing, WithPath};
-ghost use Rattle.filling.specs.Lines.{Filled, Ranges};
-ghost use Rattle.filling.specs.OneRound.{Enough, LinksAfter, RatesAfter, RatesFit, Running, busyAfter, linkAfter, rateAfter};
-ghost use Rattle.filling.specs.SmallestShare.{GivenFits, LeastLink, LeastOwn, LinksFit, SmallestFits, partsLimit, smallerOf};
+ghost use Rattle.filling.specs.Crossings.{Crossing, Joins, wordsOf};
+ghost use Rattle.filling.specs.Lines.{Filled, Ranges, crossesOf};
+ghost use Rattle.filling.specs.OneRound.{Enough, Grown, Leavable, Leaves, RatesAfter, RatesFit, Whole, Without, rateAfter};
+ghost use Rattle.filling.specs.SmallestShare.{Busy, Counted, GivenFits, LeastLink, LeastOwn, SharesFit, SmallestFits, partsLimit, smallerOf};
+ghost use Rattle.filling.specs.State.{linksOf};
 use declarations::Declared;
 use fractions::Part;
-
-// What is left of each link, the sessions there not yet fixed, and the links that have such a session. A link without one keeps what it had
-// left when its last session was fixed, in parts of the denominator of that round.
-struct Links {
-    pub busy: u64,
-    pub room: [u64; 64],
-    pub at: [u32; 64],
-}
-
-// How far the rounds are: the denominator, the sessions not yet fixed, the links, and the rates.
-struct Fill {
-    pub den: u64,
-    pub opens: u32,
-    pub links: Links,
-    pub rate: [u64; 32],
-}
 
 // The smallest share so far, room / (den * count), the links that have it, and the sessions whose own limit has it.
 struct Smallest {
@@ -43,18 +29,6 @@ struct Given {
     pub chosen: u32,
 }
 
-// One link after a round.
-struct Link {
-    pub room: u64,
-    pub at: u32,
-}
-
-// For each link the sessions that cross it, and the links that some session crosses.
-struct Words {
-    pub busy: u64,
-    pub at: [u32; 64],
-}
-
 // All rates, rate / den, and what is left of each link: 0 exactly where its capacity is fully used.
 pub struct Fixed {
     pub den: u64,
@@ -62,23 +36,27 @@ pub struct Fixed {
     pub room: [u64; 64],
 }
 
-// l, or the share of a link with so much left and these sessions not yet fixed, where that is smaller; of two equal shares the links of both.
-// 01: "how many there are is the count of its ones".
-fn smaller(l: Smallest, room: u64, at: u32, own: u32, link: u64) -> Smallest
-    requires { ⌜ SmallestFits l × (room ≤ partsLimit) ⌝ }
-    ensures { λ r. ⌜ r ≡ smallerOf l room at own link ⌝ }
+// l, or the share of a link with so much left and so many sessions not yet fixed, where that is smaller; of two equal shares the links of both.
+fn smaller(l: Smallest, room: u64, count: u64, own: u32, link: u64) -> Smallest
+    requires { ⌜ SmallestFits l × (room ≤ partsLimit) × (count ≤ 32) ⌝ }
+    ensures { λ r. ⌜ r ≡ smallerOf l room count own link ⌝ }
 {
-    if at == 0 {
-        return l;
-    }
-    let share = Part { num: room, den: 1 }.among(sessions::size(at) as u64);
-    let num = share.num;
-    let den = share.den;
     let least = l.room;
-    let count = l.count;
+    let most = l.count;
     let owns = l.own;
     let links = l.links;
-    let mine = num * count;
+    if count == 0 {
+        return Smallest {
+            room: least,
+            count: most,
+            own: owns,
+            links: links,
+        };
+    }
+    let share = Part { num: room, den: 1 }.among(count);
+    let num = share.num;
+    let den = share.den;
+    let mine = num * most;
     let best = least * den;
     if mine < best {
         return Smallest {
@@ -91,18 +69,23 @@ fn smaller(l: Smallest, room: u64, at: u32, own: u32, link: u64) -> Smallest
     if mine == best {
         return Smallest {
             room: least,
-            count: count,
+            count: most,
             own: owns | own,
             links: links | link,
         };
     }
-    l
+    Smallest {
+        room: least,
+        count: most,
+        own: owns,
+        links: links,
+    }
 }
 
 // 01: "In each round the smallest share is found": among the links. 1/0 is above every share.
-fn least_link(k: Links) -> Smallest
-    requires { ⌜ LinksFit k ⌝ }
-    ensures { λ r. ⌜ LeastLink k r ⌝ }
+fn least_link(busy: u64, room: &[u64; 64], count: &[u64; 64]) -> Smallest
+    requires { ⌜ SharesFit busy (now room) (now count) ⌝ }
+    ensures { λ r. ⌜ LeastLink (now (room .entry)) (now (count .entry)) r ⌝ }
 {
     let mut l = Smallest {
         room: 1,
@@ -110,21 +93,27 @@ fn least_link(k: Links) -> Smallest
         own: 0,
         links: 0,
     };
-    let mut left = k.busy;
+    let mut left = busy;
     while left != 0 {
         let e = sessions::next_link(left);
         let i = e as usize;
         let link = sessions::only_link(e);
-        l = smaller(l, k.room[i], k.at[i], 0, link);
+        l = smaller(l, room[i], count[i], 0, link);
         left = sessions::cut_link(left, e);
     }
     l
 }
 
 // The same with the own limits. 01: "D acts as one more link that only this session crosses".
-fn least_own(l: Smallest, den: u64, opens: u32, access: [u64; 32], maximum: [u64; 32]) -> Smallest
-    requires { ⌜ SmallestFits l × (den ≤ 118098) × ((s : ℕ) → s < 32 → getD access s 0 ≤ maxRate) ⌝ }
-    ensures { λ r. ⌜ LeastOwn l den opens access maximum r ⌝ }
+fn least_own<'a>(
+    l: Smallest,
+    den: u64,
+    opens: u32,
+    access: &'a [u64; 32],
+    maximum: &'a [u64; 32],
+) -> Smallest
+    requires { ⌜ SmallestFits l × (den ≤ 118098) × ((s : ℕ) → s < 32 → getD (now access) s 0 ≤ maxRate) ⌝ }
+    ensures { λ r. ⌜ LeastOwn l den opens (now (access .entry)) (now (maximum .entry)) r ⌝ }
 {
     let mut now = l;
     let mut left = opens;
@@ -133,61 +122,110 @@ fn least_own(l: Smallest, den: u64, opens: u32, access: [u64; 32], maximum: [u64
         let i = s as usize;
         let limit = declarations::own_limit(access[i], maximum[i]);
         let own = sessions::only(s);
-        now = smaller(now, den * limit, own, own, 0);
+        now = smaller(now, den * limit, 1, own, 0);
         left = sessions::cut(left, s);
     }
     now
 }
 
-// A link after a round: the share is taken from it once for each of its sessions that get it.
-fn link_after(l: Given, room: u64, at: u32) -> Link
-    requires { ⌜ GivenFits l × (room ≤ partsLimit) × (0 < at → l .room * ones at ≤ room * l .count) ⌝ }
-    ensures { λ r. ⌜ r ≡ linkAfter l room at ⌝ }
+// What is left of the busy links, over a denominator that is so many times as large.
+fn grow(room: &mut [u64; 64], busy: u64, by: u64)
+    requires { ⌜ (by ≤ 32) × (length (now room) ≡ 64) × ((e : ℕ) → e < 64 → getD (now room) e 0 ≤ partsLimit) ⌝ }
+    ensures { λ r. ⌜ Grown busy by (now (room .entry)) (now (room .exit)) ⌝ }
 {
-    if at == 0 {
-        return Link { room: room, at: at };
+    if by == 1 {
+        return;
     }
-    let least = l.room;
-    let count = l.count;
-    let chosen = l.chosen;
-    let gets = sessions::size(at & chosen) as u64;
-    let all = room * count;
-    let gone = least * gets;
-    Link {
-        room: all - gone,
-        at: at & !chosen,
+    let mut left = busy;
+    while left != 0 {
+        let e = sessions::next_link(left);
+        let i = e as usize;
+        let x = room[i];
+        room[i] = x * by;
+        left = sessions::cut_link(left, e);
     }
 }
 
-// The busy links once link e has these sessions not yet fixed.
-fn busy_after(busy: u64, at: u32, e: u32) -> u64
-    requires { ⌜ e < 64 ⌝ }
-    ensures { λ r. ⌜ r ≡ busyAfter busy at e ⌝ }
+// Session s leaves the link of a path byte, where it is not yet fixed: the share is taken from the link. The busy links after that.
+fn leave(
+    e: u8,
+    s: u32,
+    share: u64,
+    busy: u64,
+    room: &mut [u64; 64],
+    at: &mut [u32; 64],
+    count: &mut [u64; 64],
+) -> u64
+    requires { ⌜ (s < 32) × Whole (linksOf busy (now room) (now at) (now count))
+        × Leavable (eqb e) s share (linksOf busy (now room) (now at) (now count)) ⌝ }
+    ensures { λ r. ⌜ Leaves (eqb e) s share (linksOf busy (now (room .entry)) (now (at .entry)) (now (count .entry)))
+        (linksOf r (now (room .exit)) (now (at .exit)) (now (count .exit))) ⌝ }
 {
-    if at == 0 {
-        return sessions::cut_link(busy, e);
+    if 64 <= e {
+        return busy;
+    }
+    let i = e as usize;
+    let w = at[i];
+    if !sessions::has(w, s) {
+        return busy;
+    }
+    let others = sessions::cut(w, s);
+    let x = room[i];
+    let n = count[i];
+    at[i] = others;
+    room[i] = x - share;
+    count[i] = n - 1;
+    if others == 0 {
+        return sessions::cut_link(busy, e as u32);
     }
     busy
 }
 
-// The links after a round, over the denominator den * count.
-fn links_after(k: Links, l: Given) -> Links
-    requires { ⌜ GivenFits l × LinksFit k × Enough k l ⌝ }
-    ensures { λ r. ⌜ LinksAfter k l r ⌝ }
+// Session s leaves all links of its path.
+fn leave_path(
+    path: &[u8; 256],
+    s: u32,
+    share: u64,
+    busy: u64,
+    room: &mut [u64; 64],
+    at: &mut [u32; 64],
+    count: &mut [u64; 64],
+) -> u64
+    requires { ⌜ (s < 32) × Whole (linksOf busy (now room) (now at) (now count))
+        × Leavable (λ e. crossesOf (now path) e s) s share (linksOf busy (now room) (now at) (now count)) ⌝ }
+    ensures { λ r. ⌜ Leaves (λ e. crossesOf (now (path .entry)) e s) s share
+        (linksOf busy (now (room .entry)) (now (at .entry)) (now (count .entry)))
+        (linksOf r (now (room .exit)) (now (at .exit)) (now (count .exit))) ⌝ }
 {
-    let mut next = k;
-    let mut left = k.busy;
+    let mut next = busy;
+    let from = (s as usize) * 8;
+    for h in 0..8usize {
+        next = leave(path[from + h], s, share, next, room, at, count);
+    }
+    next
+}
+
+// The chosen sessions leave all links of their paths.
+fn leave_all(
+    path: &[u8; 256],
+    chosen: u32,
+    share: u64,
+    busy: u64,
+    room: &mut [u64; 64],
+    at: &mut [u32; 64],
+    count: &mut [u64; 64],
+) -> u64
+    requires { ⌜ Enough share (linksOf busy (now room) (now at) (now count)) ⌝ }
+    ensures { λ r. ⌜ Without (now (path .entry)) chosen share
+        (linksOf busy (now (room .entry)) (now (at .entry)) (now (count .entry)))
+        (linksOf r (now (room .exit)) (now (at .exit)) (now (count .exit))) ⌝ }
+{
+    let mut next = busy;
+    let mut left = chosen;
     while left != 0 {
-        let e = sessions::next_link(left);
-        let i = e as usize;
-        let x = link_after(l, next.room[i], next.at[i]);
-        let room = x.room;
-        let at = x.at;
-        next.room[i] = room;
-        next.at[i] = at;
-        let busy = next.busy;
-        next.busy = busy_after(busy, at, e);
-        left = sessions::cut_link(left, e);
+        let s = sessions::next(left);
+        next = leave_path(path, s, share, next, room, at, count);
+        left = sessions::cut(left, s);
     }
     next
 }
@@ -206,138 +244,129 @@ fn rate_after(l: Given, rate: u64, s: u32) -> u64
     rate * count
 }
 
-// The rates after a round, over the denominator den * count.
-fn rates_after(rate: [u64; 32], sessions: u32, l: Given) -> [u64; 32]
-    requires { ⌜ GivenFits l × RatesFit rate sessions l ⌝ }
-    ensures { λ r. ⌜ RatesAfter rate l r ⌝ }
+// The rates of the fixed sessions after a round, over the denominator den * count.
+fn rates_after(rate: &mut [u64; 32], these: u32, l: Given)
+    requires { ⌜ GivenFits l × RatesFit (now rate) these l ⌝ }
+    ensures { λ r. ⌜ RatesAfter (now (rate .entry)) l (now (rate .exit)) ⌝ }
 {
-    let mut next = rate;
-    let mut left = sessions;
+    let mut left = these;
     while left != 0 {
         let s = sessions::next(left);
         let i = s as usize;
-        let x = next[i];
-        next[i] = rate_after(l, x, s);
+        let x = rate[i];
+        rate[i] = rate_after(l, x, s);
         left = sessions::cut(left, s);
     }
-    next
 }
 
-// 01: "all sessions not yet fixed at every link with that share get it".
-fn round(d: Declared, z: Fill) -> Fill
-    requires { ⌜ Running d z × (0 < z .opens) ⌝ }
-    ensures { λ r. ⌜ Running d r × (ones (r .opens) < ones (z .opens)) ⌝ }
+fn no_words() -> [u32; 64]
+    ensures { λ r. ⌜ r ≡ replicate 64 0 ⌝ }
 {
-    let den = z.den;
-    let opens = z.opens;
-    let links = z.links;
-    let rate = z.rate;
-    let access = d.access;
-    let maximum = d.maximum;
-    let path = d.path;
-    let sessions = d.sessions;
-    let t = least_own(least_link(links), den, opens, access, maximum);
-    let least = t.room;
-    let count = t.count;
-    let own = t.own;
-    let tight = t.links;
-    let chosen = own | search::all_at(path, opens, tight);
-    let l = Given {
-        room: least,
-        count: count,
-        chosen: chosen,
-    };
-    let next = links_after(links, l);
-    let rates = rates_after(rate, sessions, l);
-    Fill {
-        den: den * count,
-        opens: opens & !chosen,
-        links: next,
-        rate: rates,
+    [0u32; 64]
+}
+
+fn no_counts() -> [u64; 64]
+    ensures { λ r. ⌜ r ≡ replicate 64 0 ⌝ }
+{
+    [0; 64]
+}
+
+// Session s comes to the link of a path byte. The busy links after that.
+fn join(e: u8, s: u32, busy: u64, at: &mut [u32; 64]) -> u64
+    requires { ⌜ (s < 32) × (length (now at) ≡ 64) ⌝ }
+    ensures { λ r. ⌜ Joins (eqb e) s (wordsOf busy (now (at .entry))) (wordsOf r (now (at .exit))) ⌝ }
+{
+    if 64 <= e {
+        return busy;
     }
+    let i = e as usize;
+    let w = at[i];
+    at[i] = sessions::put(w, s);
+    sessions::put_link(busy, e as u32)
 }
 
-fn no_words() -> Words
-    ensures { λ r. ⌜ (r .at ≡ replicate 64 0) × (r .busy ≡ 0) ⌝ }
+// Session s comes to all links of its path.
+fn join_path(path: &[u8; 256], s: u32, busy: u64, at: &mut [u32; 64]) -> u64
+    requires { ⌜ (s < 32) × (length (now at) ≡ 64) ⌝ }
+    ensures { λ r. ⌜ Joins (λ e. crossesOf (now (path .entry)) e s) s (wordsOf busy (now (at .entry))) (wordsOf r (now (at .exit))) ⌝ }
 {
-    Words {
-        busy: 0,
-        at: [0u32; 64],
-    }
-}
-
-// The words with session s at all links of its path.
-fn with_path(k: Words, path: [u8; 256], s: u32) -> Words
-    requires { ⌜ (s < 32) × (length (k .at) ≡ 64) ⌝ }
-    ensures { λ r. ⌜ WithPath k path s r ⌝ }
-{
-    let mut next = k;
+    let mut next = busy;
     let from = (s as usize) * 8;
     for h in 0..8usize {
-        let e = path[from + h] as u32;
-        if e < 64 {
-            let i = e as usize;
-            let at = next.at[i];
-            next.at[i] = sessions::put(at, s);
-            let busy = next.busy;
-            next.busy = sessions::put_link(busy, e);
-        }
+        next = join(path[from + h], s, next, at);
     }
     next
 }
 
-// The words of all sessions.
-fn crossing(path: [u8; 256], sessions: u32) -> Words
-    ensures { λ r. ⌜ Crossing path sessions r ⌝ }
+// All sessions come to the links of their paths: the words of the links, which had nobody, and the busy links.
+fn crossing(path: &[u8; 256], sessions: u32, at: &mut [u32; 64]) -> u64
+    requires { ⌜ now at ≡ replicate 64 0 ⌝ }
+    ensures { λ r. ⌜ Crossing (now (path .entry)) sessions (wordsOf r (now (at .exit))) ⌝ }
 {
-    let mut next = no_words();
+    let mut busy: u64 = 0;
     let mut left = sessions;
     while left != 0 {
         let s = sessions::next(left);
-        next = with_path(next, path, s);
+        busy = join_path(path, s, busy, at);
         left = sessions::cut(left, s);
     }
-    next
+    busy
 }
 
-// Before the first round nobody is fixed, and all of each capacity is left.
-fn start(d: Declared) -> Fill
-    requires { ⌜ Ranges d ⌝ }
-    ensures { λ r. ⌜ Running d r ⌝ }
+// 01: "how many there are is the count of its ones".
+fn counted(busy: u64, at: &[u32; 64], count: &mut [u64; 64])
+    requires { ⌜ Busy busy (now at) × (now count ≡ replicate 64 0) × ((e : ℕ) → e < 64 → getD (now at) e 0 < 4294967296) ⌝ }
+    ensures { λ r. ⌜ Counted (now (at .entry)) (now (count .exit)) × (length (now (count .exit)) ≡ 64) ⌝ }
 {
-    let room = d.capacity;
-    let path = d.path;
-    let sessions = d.sessions;
-    let words = crossing(path, sessions);
-    let busy = words.busy;
-    let at = words.at;
-    let rate = declarations::no_rates();
-    let links = Links {
-        busy: busy,
-        room: room,
-        at: at,
-    };
-    Fill {
-        den: 1,
-        opens: sessions,
-        links: links,
-        rate: rate,
+    let mut left = busy;
+    while left != 0 {
+        let e = sessions::next_link(left);
+        let i = e as usize;
+        let n = sessions::size(at[i]);
+        count[i] = n as u64;
+        left = sessions::cut_link(left, e);
     }
 }
 
-// The max-min fair rates of the declared sessions. 01: "and the round repeats".
+// The max-min fair rates of the declared sessions. Before the first round nobody is fixed, and all of each capacity is left. A link where all are fixed
+// keeps what it had left then, in parts of the denominator of that round.
+// 01: "all sessions not yet fixed at every link with that share get it", "and the round repeats".
 pub fn filled(d: Declared) -> Fixed
     requires { ⌜ Ranges d ⌝ }
     ensures { λ r. ⌜ Filled d r ⌝ }
 {
-    let mut now = start(d);
-    while now.opens != 0 {
-        now = round(d, now);
+    let sessions = d.sessions;
+    let mut room = d.capacity;
+    let mut at = no_words();
+    let mut count = no_counts();
+    let mut rate = declarations::no_rates();
+    let mut busy = crossing(&d.path, sessions, &mut at);
+    counted(busy, &at, &mut count);
+    let mut den: u64 = 1;
+    let mut opens = sessions;
+    while opens != 0 {
+        let t = least_own(
+            least_link(busy, &room, &count),
+            den,
+            opens,
+            &d.access,
+            &d.maximum,
+        );
+        let share = t.room;
+        let by = t.count;
+        let own = t.own;
+        let chosen = own | search::all_at(&d.path, opens, t.links);
+        grow(&mut room, busy, by);
+        busy = leave_all(&d.path, chosen, share, busy, &mut room, &mut at, &mut count);
+        opens = opens & !chosen;
+        let l = Given {
+            room: share,
+            count: by,
+            chosen: chosen,
+        };
+        rates_after(&mut rate, sessions & !opens, l);
+        den = den * by;
     }
-    let den = now.den;
-    let rate = now.rate;
-    let links = now.links;
-    let room = links.room;
     Fixed {
         den: den,
         rate: rate,

@@ -2,9 +2,10 @@
 -- Assumes nothing: definitions.
 use mathlib.Core.List.{List}
 use mathlib.Core.Path.{_≡_}
-use Prim.Native.Nat.{ℕ, _*_, _+_, _<_, _≤_}
+use Prim.Native.Nat.{ℕ, _*_, _+_, _-_, _<_, _≤_, _^_}
+use lib.Bits.{bitAnd}
 use lib.ListN.{getD}
-use Rattle.sessions.specs.Set.{has}
+use Rattle.sessions.specs.Set.{cut, has}
 
 -- one of the eight bytes of the path of s is a link of the set
 abbrev pub Meets : List ℕ → ℕ → ℕ → Type 0
@@ -21,3 +22,7 @@ pub record AllAt (path : List ℕ) (opens links r : ℕ) : Type 0 where
   pub small : r < 4294967296
   pub only : (s : ℕ) → s < 32 → has s r ≡ 1 → (has s opens ≡ 1) × Meets path links s
   pub every : (s : ℕ) → s < 32 → has s opens ≡ 1 → Meets path links s → has s r ≡ 1
+
+-- the sessions of left that come after s: without the s lowest digits, and without s
+abbrev pub afterOf : ℕ → ℕ → ℕ
+afterOf left s = cut s (bitAnd left ((2 ^ 32 - 1) - (2 ^ s - 1)))

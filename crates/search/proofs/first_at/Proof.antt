@@ -2,6 +2,7 @@
 -- Assumes nothing.
 use mathlib.Core.Path.{_≡_, refl, sym, ap, _∙_}
 use Prim.Native.Nat.{ℕ, _-_, _*_, _^_, _<_, _≤_}
+use denote.Ref.{now}
 use native.Mathlib.Omega.{arith}
 use borrow.Author.Needs.{needs}
 use borrow.Author.Tests.{eqb-true}
@@ -13,20 +14,20 @@ use Rattle.search.proofs.first_at.Statement.{statement}
 use Rattle.search.proofs.first_at.Tie as tie
 
 abbrev Inv-loop : tie.InvT-loop
-Inv-loop left links path found₀ rest s from h₀ found h = (h ≤ 8) × (found ≡ 32) × (from ≡ s * 8) × NoneOf path links s h
+Inv-loop path left links found₀ rest s from h₀ found h = (h ≤ 8) × (found ≡ 32) × (from ≡ s * 8) × NoneOf path links s h
 
 abbrev μ-loop : tie.MeasureT-loop
-μ-loop left links path found₀ rest s from h₀ found h = 8 - h
+μ-loop path left links found₀ rest s from h₀ found h = 8 - h
 
 abbrev Inv-search : tie.InvT-search
-Inv-search left links path found₀ rest₀ found rest =
+Inv-search path left links found₀ rest₀ found rest =
     (rest < 2 ^ 32)
     × (found ≡ 32)
     × ((s : ℕ) → s < 32 → has s rest ≤ has s left)
     × Tried path links left rest
 
 abbrev μ-search : tie.MeasureT-search
-μ-search left links path found₀ rest₀ found rest = rest
+μ-search path left links found₀ rest₀ found rest = rest
 
 -- the next session, and that less is left without it
 small : (c : tie.After-next Inv-loop μ-loop Inv-search μ-search) → c .next .result < 32
@@ -53,17 +54,14 @@ mul-from c = omega (arith, small c)
 loop-holds : tie.Need-loop-holds Inv-loop μ-loop Inv-search μ-search
 loop-holds c = (omega arith, c .before .before .search .inv .1, refl, λ i l. absurd (omega arith))
 
-add-e : tie.Need-add-e Inv-loop μ-loop Inv-search μ-search
-add-e c = omega (arith, small (c .before .before))
+add-in-links : tie.Need-add-in-links Inv-loop μ-loop Inv-search μ-search
+add-in-links c = omega (arith, small (c .before .before))
 
-array-read-e : tie.Need-array-read-e Inv-loop μ-loop Inv-search μ-search
-array-read-e c = omega (arith, small (c .before .before))
+element-copy-out-in-links : tie.Need-element-copy-out-in-links Inv-loop μ-loop Inv-search μ-search
+element-copy-out-in-links c = omega (arith, small (c .before .before))
 
-cast-e : tie.Need-cast-e Inv-loop μ-loop Inv-search μ-search
-cast-e c = search needs
-
-has-link-requires : tie.Need-has-link-requires Inv-loop μ-loop Inv-search μ-search
-has-link-requires c κs = search needs
+in-links-requires : tie.Need-in-links-requires Inv-loop μ-loop Inv-search μ-search
+in-links-requires c κs = search needs
 
 add-h : tie.Need-add-h Inv-loop μ-loop Inv-search μ-search
 add-h c = search needs
@@ -73,10 +71,10 @@ loop-less c = search needs
 
 loop-again : tie.Need-loop-again Inv-loop μ-loop Inv-search μ-search
 loop-again c =
-    let a = c .before .before .before .before .before .before .before .args in
-    let z = c .before .before .before .loop in
-    let miss = sym (c .before .has-link .ensures) ∙ c .if1 .left in
-    (omega arith, z .inv .1, refl, none-of-more (a .t1) (a .links) (c .before .before .before .before .next .result) (z .h) miss (z .inv .3))
+    let a = c .before .before .before .before .before .before .before .before .args in
+    let z = c .before .before .before .before .loop in
+    let miss = sym (c .before .in-links .ensures) ∙ c .if1 .left in
+    (omega arith, z .inv .1, refl, none-of-more (now (a .path)) (a .links) (c .before .before .before .before .before .next .result) (z .h) miss (z .inv .3))
 
 cut-requires : tie.Need-cut-requires Inv-loop μ-loop Inv-search μ-search
 cut-requires c κs = small (c .before .before)
@@ -94,24 +92,24 @@ search-again c =
       omega (arith, less c),
       omega (arith, y .inv .1),
       λ t h. omega (arith, ap (has t) (v .ensures), has-cut-le t s (z .rest), z .inv .2 t h),
-      tried-more (a .t1) (a .links) (a .left) (z .rest) s (v .result) (y .h) (v .ensures) (omega arith) (y .inv .3) (z .inv .3),
+      tried-more (now (a .path)) (a .links) (a .left) (z .rest) s (v .result) (y .h) (v .ensures) (omega arith) (y .inv .3) (z .inv .3),
     )
 
 returns : tie.Need-returns Inv-loop μ-loop Inv-search μ-search
 returns c =
     let a = c .before .before .args in
     let z = c .before .search in
-    first-none (a .t1) (a .links) (a .left) (z .rest) (z .found) (z .inv .1) (omega arith) (z .inv .3)
+    first-none (now (a .path)) (a .links) (a .left) (z .rest) (z .found) (z .inv .1) (omega arith) (z .inv .3)
 
 returns-2 : tie.Need-returns-2 Inv-loop μ-loop Inv-search μ-search
 returns-2 c =
-    let a = c .before .before .before .before .before .before .before .args in
-    let z = c .before .before .before .before .before .before .search in
-    let n = c .before .before .before .before .next in
-    let hit = eqb-true _ _ (sym (c .before .has-link .ensures) ∙ c .if1 .taken) in
-    let h = c .before .before .before .loop .h in
-    first-hit (a .t1) (a .links) (a .left) (z .rest) (n .result) h (omega arith) (z .inv .0) (n .ensures) (z .inv .2)
-    (c .before .before .loop-test .taken) hit (z .inv .3)
+    let a = c .before .before .before .before .before .before .before .before .args in
+    let z = c .before .before .before .before .before .before .before .search in
+    let n = c .before .before .before .before .before .next in
+    let hit = eqb-true _ _ (sym (c .before .in-links .ensures) ∙ c .if1 .taken) in
+    let h = c .before .before .before .before .loop .h in
+    first-hit (now (a .path)) (a .links) (a .left) (z .rest) (n .result) h (omega arith) (z .inv .0) (n .ensures) (z .inv .2)
+    (c .before .before .before .loop-test .taken) hit (z .inv .3)
 
 pub first-at-spec : {M : Type 1} → statement M
 first-at-spec =
@@ -126,10 +124,9 @@ first-at-spec =
     cast-from
     mul-from
     loop-holds
-    add-e
-    array-read-e
-    cast-e
-    has-link-requires
+    add-in-links
+    element-copy-out-in-links
+    in-links-requires
     add-h
     loop-less
     loop-again
