@@ -1,6 +1,6 @@
 //! Compares the proved library (through `umbraconga`) with the second implementation (`second`),
 //! which was written from the documents alone. The program `compare` runs every sort of input of
-//! `sorts` on both and counts; the program `bench` times both on the same inputs.
+//! `sorts` on both and counts; the program `bench` times both on the same inputs (`timing`).
 //!
 //! What is compared: of a calculation the answer and all three slices in full (`calculation`); of a
 //! run the report, the words of the table that are in use, the settled question, what every session
@@ -30,5 +30,6 @@ pub mod runs;
 pub mod slices;
 pub mod sorts;
 pub mod tally;
+pub mod timing;
 pub mod words;
 pub mod world;
