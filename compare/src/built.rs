@@ -7,7 +7,7 @@ use crate::pair::Pair;
 use crate::random::Random;
 use crate::tally::Tally;
 use crate::words::{entry_at, link_at, packet_at, source_at, zeros, Words, COUNT};
-use second::making::{change, deliver, is_in_turn, leave, link, session};
+use second::making::{change, deliver, held_access, is_in_turn, leave, link, session};
 
 // What a table is built over.
 struct Plan {
@@ -64,7 +64,14 @@ fn events(plan: &Plan, pair: &Pair, random: &mut Random) -> Vec<u8> {
         bytes.extend(match random.under(12) {
             0 => session(number, 100, 0, &random.path(&plan.links)),
             1 => leave(number),
-            2 => change(number, random.under(3) as u32),
+            2 => {
+                let access = held_access(pair.second(), number);
+                // A few are one above the access rate (02, §1).
+                match random.chance(10) {
+                    true => change(number, access + 1),
+                    false => change(number, access.min(random.under(3) as u32)),
+                }
+            }
             3 => deliver(1),
             _ => deliver(0),
         });
@@ -121,7 +128,12 @@ fn source(words: &mut Words, plan: &Plan, session: usize, active: bool, random: 
     let at = source_at(session);
     words[at] = u64::from(active);
     words[at + 1] = random.one_of(&[1, 2, plan.capacity, 1_000_000]);
-    words[at + 2] = random.one_of(&[0, 0, 1, plan.capacity]);
+    // Up to the access rate, but for a few tables that meet 14 by it (02, §1).
+    let maximum = random.one_of(&[0, 0, 1, plan.capacity]);
+    words[at + 2] = match random.under(200) {
+        0 => words[at + 1] + 1,
+        _ => maximum.min(words[at + 1]),
+    };
     for (place, most) in [(3, 2), (4, 3), (5, 2), (6, 2), (7, 2)] {
         words[at + place] = random.under(most) as u64;
     }

@@ -29,8 +29,9 @@ pub fn crowded(random: &mut Random, tally: &mut Tally) -> Result<(), Difference>
         let number = random.under(sessions + 2).min(31) as u8;
         let record = match random.under(8) {
             0 => leave(number),
-            1 | 2 => change(number, random.under(3) as u32),
-            3 => session(number, 100, 0, &[0]),
+            // The access rate is 100: above it 16 comes before 10 and 13 (02, §1).
+            1 | 2 => change(number, random.one_of(&[0, 1, 2, 100, 101])),
+            3 => session(number, 100, random.one_of(&[0, 100, 101]), &[0]),
             // The latest packets are those that go on; the earlier ones are mostly Bottlenecks.
             4..=6 => deliver(packets.len().saturating_sub(1 + random.under(6))),
             _ => deliver(random.under(packets.len() + 1)),

@@ -33,7 +33,7 @@ pub fn damaged(random: &mut Random, tally: &mut Tally) -> Result<(), Difference>
         let mut pair = Pair::handed(words);
         for _ in 0..4 {
             let records = match random.chance(50) {
-                true => world.event(random, &pair.second().packets),
+                true => world.event(random, pair.second()),
                 false => batch(&world, &pair, random, 12),
             };
             let refused = pair.run(&records, tally)?.refused;
@@ -50,12 +50,13 @@ pub fn damaged(random: &mut Random, tally: &mut Tally) -> Result<(), Difference>
 fn damage(words: &mut Words, random: &mut Random) {
     let used = in_use(words);
     let places: Vec<usize> = (0..words.len()).filter(|&place| used[place]).collect();
-    let place = match random.under(10) {
+    let place = match random.under(11) {
         0 => random.under(words.len()),
         1 => source_at(random.under(32)) + random.under(24),
         2 => packet_at(random.under(3)) + random.under(8),
         3 => return damage_sets(words, random),
         4 => return damage_path(words, random),
+        5 => return damage_maximum(words, random),
         // Past the links, most of which say only that they are not declared, and on to the count.
         _ => random.one_of(&places[3 * LINKS..]),
     };
@@ -103,6 +104,24 @@ fn damage_path(words: &mut Words, random: &mut Random) {
     }
 }
 
+// Makes a maximum the access rate, or one above it, or ten times as much; or the access rate the maximum,
+// or one below it. Above the access rate it is a fault (02, §1) where the session has joined.
+fn damage_maximum(words: &mut Words, random: &mut Random) {
+    let joined = (0..SESSIONS).filter(|&session| words[source_at(session) + 12] > 0);
+    let joined: Vec<usize> = joined.collect();
+    let at = source_at(match joined.is_empty() || random.chance(5) {
+        true => random.under(SESSIONS),
+        false => random.one_of(&joined),
+    });
+    match random.under(5) {
+        0 => words[at + 2] = words[at + 1],
+        1 => words[at + 2] = words[at + 1].wrapping_add(1),
+        2 => words[at + 2] = words[at + 1].wrapping_mul(10),
+        3 => words[at + 1] = words[at + 2],
+        _ => words[at + 1] = words[at + 2].wrapping_sub(1),
+    }
+}
+
 /// The same events on a table and on one that differs where nothing is in use give the same.
 pub fn unused_filled(random: &mut Random, tally: &mut Tally) -> Result<(), Difference> {
     let (world, mut plain) = reached(random, tally)?;
@@ -118,7 +137,7 @@ pub fn unused_filled(random: &mut Random, tally: &mut Tally) -> Result<(), Diffe
     let mut filled = Pair::handed(words);
     for _ in 0..8 {
         let records = match random.chance(50) {
-            true => world.event(random, &plain.second().packets),
+            true => world.event(random, plain.second()),
             false => batch(&world, &plain, random, 20),
         };
         let ran = plain.run(&records, tally)?;

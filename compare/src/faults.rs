@@ -73,7 +73,7 @@ fn same_taken(pair: &mut Pair, records: &[u8], tally: &mut Tally) -> Result<(), 
 // What is written into the sound table, place and number, and the clause that it then fails.
 type Damage = (Fault, &'static [(usize, u64)]);
 
-const DAMAGES: [Damage; 38] = [
+const DAMAGES: [Damage; 44] = [
     (Fault::FieldOutsideRange, &[(link_at(0), 1_000_001)]),
     (Fault::FieldOutsideRange, &[(link_at(0) + 1, 1 << 32 | 1)]),
     (Fault::FieldOutsideRange, &[(link_at(40) + 2, 1 << 63)]),
@@ -114,6 +114,32 @@ const DAMAGES: [Damage; 38] = [
     (Fault::SumPastCapacity, &[(entry_at(1, 0) + 1, 21)]),
     (Fault::SumsTooFine, &PARTIAL_SUM),
     (Fault::SumsTooFine, &BOTTLENECK_RATE),
+    // Session 0 is active and at rest, session 1 joins, session 2 has left; their access rate is 100.
+    (Fault::MaximumAboveAccess, &[(source_at(0) + 2, 101)]),
+    (Fault::MaximumAboveAccess, &[(source_at(0) + 2, 1_000_000)]),
+    (Fault::MaximumAboveAccess, &[(source_at(1) + 2, 101)]),
+    (Fault::MaximumAboveAccess, &[(source_at(2) + 2, 101)]),
+    (
+        Fault::MaximumAboveAccess,
+        &[(source_at(0) + 1, 1), (source_at(0) + 2, 2)],
+    ),
+    (
+        Fault::MaximumAboveAccess,
+        &[(source_at(2) + 1, 999_999), (source_at(2) + 2, 1_000_000)],
+    ),
+];
+
+// What leaves the table without a fault: maxima up to the access rate (02, §1), and any words of a
+// session that never joined.
+const NEIGHBOURS: [&[(usize, u64)]; 8] = [
+    &[(source_at(0) + 2, 100)],
+    &[(source_at(0) + 2, 0)],
+    &[(source_at(1) + 2, 99)],
+    &[(source_at(2) + 2, 100)],
+    &[(source_at(0) + 1, 1), (source_at(0) + 2, 1)],
+    &[(source_at(2) + 1, 1_000_000), (source_at(2) + 2, 1_000_000)],
+    &[(source_at(9) + 1, 1), (source_at(9) + 2, 2)],
+    &[(source_at(9) + 2, u64::MAX)],
 ];
 
 // The partial sum of 1/1,048,576 and 1/3 in F of link 1.
@@ -137,15 +163,20 @@ const BOTTLENECK_RATE: [(usize, u64); 9] = [
     (link_at(1) + 2, 0b001),
 ];
 
-/// Each clause of 14.
+/// Each clause of 14, and tables next to a fault that are taken.
 pub fn every_clause(_: &mut Random, tally: &mut Tally) -> Result<(), Difference> {
     let sound = sound(tally)?;
+    for (place, neighbour) in NEIGHBOURS.into_iter().enumerate() {
+        let words = written(&sound, neighbour);
+        let what = format!("neighbour {place}, which has no fault");
+        same(&what, &[], passes_14(&table_of(&words)), Ok(()))?;
+        for records in [&[][..], &deliver(0), &deliver(1)] {
+            same_taken(&mut Pair::handed(words.clone()), records, tally)?;
+        }
+    }
     let too_long = vec![1; 40_000];
     for (place, (fault, damage)) in DAMAGES.into_iter().enumerate() {
-        let mut words = sound.clone();
-        for &(at, number) in damage {
-            words[at] = number;
-        }
+        let words = written(&sound, damage);
         let clause = passes_14(&table_of(&words));
         let what = format!("the clause that damage {place} fails");
         same(&what, &[], clause, Err(fault))?;
@@ -157,6 +188,15 @@ pub fn every_clause(_: &mut Random, tally: &mut Tally) -> Result<(), Difference>
         }
     }
     Ok(())
+}
+
+// The table with these numbers written at these places.
+fn written(sound: &Words, numbers: &[(usize, u64)]) -> Box<Words> {
+    let mut words = Box::new(*sound);
+    for &(at, number) in numbers {
+        words[at] = number;
+    }
+    words
 }
 
 /// One word after another made the largest number: where it is in use the table is refused 14, and

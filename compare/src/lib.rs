@@ -10,6 +10,7 @@
 #![forbid(unsafe_code)]
 #![warn(missing_docs)]
 
+pub mod above;
 pub mod built;
 pub mod calculation;
 pub mod crowded;

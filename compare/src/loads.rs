@@ -7,7 +7,7 @@ use second::machine::{run, Table as Other};
 use crate::networks::sized_network;
 use crate::random::Random;
 use crate::runs::record_ends;
-use second::making::{change, deliver, link, session};
+use second::making::{change, deliver, held_access, link, session};
 
 /// The specification's example P6: 2 links and 4 sessions.
 pub const P6: &[u8] = include_bytes!("../../examples/p6.bin");
@@ -64,7 +64,12 @@ pub fn busy(network: Vec<u8>) -> Busy {
     let mut deliveries = 0;
     while records.len() < 30_000 {
         let record = match table.packets.is_empty() {
-            true => change(random.one_of(&active), random.one_of(&[0, 1, 2, 1_000])),
+            true => {
+                let number = random.one_of(&active);
+                // Not above the access rate (02, §1).
+                let maximum = random.one_of(&[0, 1, 2, 1_000]);
+                change(number, maximum.min(held_access(&table, number)))
+            }
             false => {
                 deliveries += 1;
                 deliver(0)

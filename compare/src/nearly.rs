@@ -43,7 +43,7 @@ fn change(words: &mut Words, session: usize, random: &mut Random) {
     let hops = words[at + 12] as usize;
     let link = words[at + 16 + random.under(hops)] as usize;
     let entry = entry_at(link, session);
-    match random.under(14) {
+    match random.under(15) {
         // From R to F or back, at one link; out of both.
         0..=3 => {
             words[link_at(link) + 1] ^= 1 << session;
@@ -59,10 +59,12 @@ fn change(words: &mut Words, session: usize, random: &mut Random) {
         7 => words[at + random.between(5, 6)] ^= 1,
         8 => words[at + 7] = 0,
         9 => words[at + 10] = words[at + 11] * random.between(0, 9) as u64 + 1,
-        // D comes near the rate; the link carries one more or less.
+        // D comes near the rate, by the maximum or by the access rate, of which the maximum may then be
+        // above the other, which is a fault (02, §1); the link carries one more or less.
         10 => words[at + 2] = near(words[at + 8] / words[at + 9], random),
-        11 => words[link_at(link)] = near(words[link_at(link)], random).max(1),
-        12 => rate_everywhere(words, session, random),
+        11 => words[at + 1] = near(words[at + 8] / words[at + 9], random).max(1),
+        12 => words[link_at(link)] = near(words[link_at(link)], random).max(1),
+        13 => rate_everywhere(words, session, random),
         // One packet in flight, an Update about to reach the source.
         _ => {
             let update = [session as u64, 0, 0, 3, 0, 1, 64, 0];

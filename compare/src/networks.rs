@@ -52,9 +52,10 @@ pub fn sized_network(
             None => random.path(known),
         };
         let access = rate(random);
+        // Not above the access rate (02, §1).
         let maximum = match random.chance(60) {
             true => 0,
-            false => rate(random),
+            false => rate(random).min(access),
         };
         bytes.extend(session(number, access, maximum, &path));
     }

@@ -9,7 +9,8 @@ use crate::random::Random;
 use crate::tally::Tally;
 use second::making::{change, deliver, is_in_turn, leave, link, session};
 
-const MOST: u32 = 1_000_000;
+/// The largest rate.
+pub const MOST: u32 = 1_000_000;
 
 /// All of them.
 pub fn every_refusal(_: &mut Random, tally: &mut Tally) -> Result<(), Difference> {
@@ -68,10 +69,10 @@ fn short_runs() -> Vec<(u64, Vec<u8>)> {
     ]
 }
 
-// Runs one record that both sides take.
-fn take(pair: &mut Pair, record: &[u8], tally: &mut Tally) -> Result<(), Difference> {
-    let refused = pair.run(record, tally)?.refused;
-    same("a record that should be taken", record, refused, None)
+/// Runs records that both sides take.
+pub fn take(pair: &mut Pair, records: &[u8], tally: &mut Tally) -> Result<(), Difference> {
+    let refused = pair.run(records, tally)?.refused;
+    same("records that should be taken", records, refused, None)
 }
 
 /// Runs one record that should meet this refusal, or none where it is 0.
@@ -92,8 +93,8 @@ fn first(pair: &Pair, chosen: &impl Fn(&Packet) -> bool) -> Option<usize> {
     (0..packets.len()).find(|&position| chosen(&packets[position]) && is_in_turn(packets, position))
 }
 
-// Delivers chosen packets, the earliest sent first, until none is left.
-fn drain(
+/// Delivers chosen packets, the earliest sent first, until none is left.
+pub fn drain(
     pair: &mut Pair,
     chosen: impl Fn(&Packet) -> bool,
     tally: &mut Tally,

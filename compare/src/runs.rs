@@ -10,7 +10,7 @@ use crate::pair::Pair;
 use crate::random::Random;
 use crate::tally::Tally;
 use crate::world::World;
-use second::making::{change, record_bytes};
+use second::making::{change, held_access, record_bytes};
 
 /// A run in a small world, one record in each call, until nothing is in flight; then once more in
 /// one call and in several.
@@ -19,7 +19,7 @@ pub fn one_record_a_call(random: &mut Random, tally: &mut Tally) -> Result<(), D
     let mut pair = Pair::empty();
     pair.run(&world.declarations(random), tally)?;
     for _ in 0..random.under(60) {
-        let record = world.event(random, &pair.second().packets);
+        let record = world.event(random, pair.second());
         pair.run(&record, tally)?;
     }
     // That every run settles is not promised, so the end is not waited for without limit.
@@ -57,7 +57,7 @@ pub fn batch(world: &World, pair: &Pair, random: &mut Random, most: usize) -> Ve
     let mut scratch = pair.second().clone();
     let mut bytes = Vec::new();
     for _ in 0..random.between(1, most) {
-        let record = world.event(random, &scratch.packets);
+        let record = world.event(random, &scratch);
         let refused = run(&mut scratch, &record).refused;
         if refused.is_none() || random.chance(5) {
             bytes.extend(record);
@@ -132,12 +132,13 @@ pub fn too_long(random: &mut Random, tally: &mut Tally) -> Result<(), Difference
         1 => INPUT_BYTES + 1,
         _ => random.between(INPUT_BYTES - 100, INPUT_BYTES + 20_000),
     };
-    // An active session can change again and again.
+    // An active session can change again and again, up to its access rate.
     let active = (0..32).find(|&session| pair.second().sources[session].is_active());
     let number = active.unwrap_or(0) as u8;
+    let access = held_access(pair.second(), number);
     let mut records = Vec::new();
     while records.len() < length {
-        records.extend(change(number, random.under(3) as u32));
+        records.extend(change(number, access.min(random.under(3) as u32)));
     }
     records.truncate(length);
     pair.run(&records, tally)?;

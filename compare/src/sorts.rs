@@ -7,7 +7,7 @@ use crate::difference::Difference;
 use crate::random::Random;
 use crate::tally::Tally;
 use crate::{
-    built, crowded, damage, faults, nearly, networks, odd, purpose, recorded, runs, slices,
+    above, built, crowded, damage, faults, nearly, networks, odd, purpose, recorded, runs, slices,
 };
 
 /// One sort: its name, how many cases it has, and what one case does.
@@ -28,12 +28,17 @@ const fn sort(
 }
 
 /// The cases that are the same in every run of the program.
-pub const FIXED: [Sort; 7] = [
+pub const FIXED: [Sort; 9] = [
     sort("calculations, recorded", 1, recorded::calculations),
     sort(
         "calculations, slices of every length",
         1,
         slices::every_length,
+    ),
+    sort(
+        "calculations, 16 on purpose",
+        1,
+        above::calculations_on_purpose,
     ),
     sort("runs, recorded", 1, recorded::runs),
     sort(
@@ -41,6 +46,7 @@ pub const FIXED: [Sort; 7] = [
         1,
         purpose::every_refusal,
     ),
+    sort("runs, 16 on purpose", 1, above::runs_on_purpose),
     sort(
         "handed tables, each clause of 14 on purpose",
         1,
@@ -55,7 +61,7 @@ pub const FIXED: [Sort; 7] = [
 ];
 
 /// The cases that go by a seed.
-pub const RANDOM: [Sort; 14] = [
+pub const RANDOM: [Sort; 15] = [
     sort("calculations, accepted", 35_000, networks::valid),
     sort("calculations, damaged", 35_000, networks::damaged),
     sort("calculations, cut off", 20_000, networks::cut),
@@ -65,6 +71,11 @@ pub const RANDOM: [Sort; 14] = [
         networks::too_long,
     ),
     sort("calculations, any bytes", 20_000, networks::any_bytes),
+    sort(
+        "calculations, a maximum above an access rate",
+        10_000,
+        above::networks,
+    ),
     sort(
         "calculations, slices of random lengths",
         15_000,

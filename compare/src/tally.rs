@@ -7,8 +7,8 @@ use second::machine::Fault;
 
 use second::making::record_bytes;
 
-/// The clauses of refusal 14 in the order of its sentence.
-const CLAUSES: [Fault; 11] = [
+/// The clauses of refusal 14 in the order of its sentence, and the one that 02, §1 adds.
+const CLAUSES: [Fault; 12] = [
     Fault::FieldOutsideRange,
     Fault::RateNotInLowestTerms,
     Fault::PathOverUndeclaredLink,
@@ -20,7 +20,14 @@ const CLAUSES: [Fault; 11] = [
     Fault::EntryOfAGoneSession,
     Fault::SumPastCapacity,
     Fault::SumsTooFine,
+    Fault::MaximumAboveAccess,
 ];
+
+/// The refusals are numbered from 1; in place 0 is counted what was accepted.
+const REFUSALS: usize = 17;
+
+/// The records in which the machine can meet 16 (02, §1), with their kinds.
+const WITH_MAXIMUM: [(u8, &str); 2] = [(2, "a session record"), (4, "a change")];
 
 /// The kinds of records.
 const KINDS: [&str; 5] = ["links", "joins", "leaves", "changes", "deliveries"];
@@ -40,9 +47,11 @@ pub struct Tally {
     settled: u64,
     sessions: u64,
     /// How often the calculation met each refusal.
-    by_calculation: [u64; 16],
+    by_calculation: [u64; REFUSALS],
     /// How often the machine did.
-    by_machine: [u64; 16],
+    by_machine: [u64; REFUSALS],
+    /// How often the machine met 16 in each record that has a maximum.
+    above: [u64; WITH_MAXIMUM.len()],
     clauses: [u64; CLAUSES.len()],
     // The sort under which calls are counted now.
     sort: &'static str,
@@ -74,6 +83,9 @@ impl Tally {
         }
         self.tables += u64::from(refusal != 14);
         self.by_machine[refusal as usize] += 1;
+        for ((kind, _), count) in WITH_MAXIMUM.iter().zip(&mut self.above) {
+            *count += u64::from(refusal == 16 && records[place] == *kind);
+        }
     }
 
     /// A settled table's rates were compared with the calculation.
@@ -101,6 +113,7 @@ impl Tally {
         self.sessions += other.sessions;
         add_each(&mut self.by_calculation, &other.by_calculation);
         add_each(&mut self.by_machine, &other.by_machine);
+        add_each(&mut self.above, &other.above);
         add_each(&mut self.clauses, &other.clauses);
     }
 
@@ -110,21 +123,31 @@ impl Tally {
     }
 
     /// The refusals and clauses that should have been met and were not: the calculation can meet 1
-    /// to 8 and 15, the machine 1 to 14.
+    /// to 8, 15 and 16, the machine 1 to 14 and 16, the latter in a session record and in a change.
     pub fn not_met(&self) -> Vec<String> {
         let by_calculation = (1..=8)
-            .chain([15])
+            .chain([15, 16])
             .filter(|&number| self.by_calculation[number] == 0)
             .map(|number| format!("refusal {number} of a calculation"));
         let by_machine = (1..=14)
+            .chain([16])
             .filter(|&number| self.by_machine[number] == 0)
             .map(|number| format!("refusal {number} of a run"));
+        let above = WITH_MAXIMUM
+            .iter()
+            .zip(&self.above)
+            .filter(|(_, &count)| count == 0)
+            .map(|((_, record), _)| format!("refusal 16 of {record} in a run"));
         let clauses = CLAUSES
             .iter()
             .zip(&self.clauses)
             .filter(|(_, &count)| count == 0)
             .map(|(clause, _)| format!("clause {clause:?} of 14"));
-        by_calculation.chain(by_machine).chain(clauses).collect()
+        by_calculation
+            .chain(by_machine)
+            .chain(above)
+            .chain(clauses)
+            .collect()
     }
 }
 
@@ -155,11 +178,17 @@ impl fmt::Display for Tally {
         )?;
         writeln!(
             f,
-            "refusal    1 to 15, by calculations and by runs; 0 is accepted"
+            "refusal    1 to 16, by calculations and by runs; 0 is accepted"
         )?;
-        for number in 0..16 {
+        for number in 0..REFUSALS {
             let (calculations, runs) = (self.by_calculation[number], self.by_machine[number]);
             writeln!(f, "{number:>9} {calculations:>9} {runs:>9}")?;
+        }
+        for ((_, record), count) in WITH_MAXIMUM.iter().zip(&self.above) {
+            writeln!(
+                f,
+                "{count:>9} runs met 16, a maximum above the access rate, in {record}"
+            )?;
         }
         writeln!(f, "clauses of 14")?;
         for (clause, count) in CLAUSES.iter().zip(&self.clauses) {

@@ -1,11 +1,11 @@
 //! Random events over a few links and sessions: joins, changes, leaves, declarations, deliveries in
-//! and out of turn, and damaged records.
+//! and out of turn, maxima above the access rate, and damaged records.
 
-use second::machine::table::Packet;
+use second::machine::table::{Packet, Table};
 
 use crate::networks::damage;
 use crate::random::Random;
-use second::making::{change, deliver, leave, link, session, Turn};
+use second::making::{change, deliver, held_access, leave, link, maximum_above, session, Turn};
 
 /// The links and sessions of a run.
 pub struct World {
@@ -54,23 +54,26 @@ impl World {
         random.between(1, self.largest_rate) as u32
     }
 
-    fn maximum(&self, random: &mut Random) -> u32 {
-        match random.chance(40) {
-            true => 0,
-            false => self.rate(random),
+    // None, or one up to the access rate; of every twelve one is above it (02, §1).
+    fn maximum(&self, random: &mut Random, access: u32) -> u32 {
+        match random.under(12) {
+            0 => maximum_above(access, |count| random.under(count)),
+            1..=5 => 0,
+            _ => self.rate(random).min(access),
         }
     }
 
     fn join(&self, random: &mut Random) -> Vec<u8> {
         let number = random.one_of(&self.sessions);
         let path = random.path(&self.links);
-        let (access, maximum) = (self.rate(random), self.maximum(random));
+        let access = self.rate(random);
+        let maximum = self.maximum(random, access);
         session(number, access, maximum, &path)
     }
 
-    fn change(&self, random: &mut Random) -> Vec<u8> {
+    fn change(&self, random: &mut Random, table: &Table) -> Vec<u8> {
         let number = random.one_of(&self.sessions);
-        change(number, self.maximum(random))
+        change(number, self.maximum(random, held_access(table, number)))
     }
 
     /// A delivery that is in turn, if there is a packet.
@@ -80,12 +83,12 @@ impl World {
             .map(deliver)
     }
 
-    fn damaged(&self, random: &mut Random, packets: &[Packet]) -> Vec<u8> {
+    fn damaged(&self, random: &mut Random, table: &Table) -> Vec<u8> {
         let mut bytes = match random.under(4) {
             0 => self.join(random),
-            1 => self.change(random),
+            1 => self.change(random, table),
             2 => leave(random.one_of(&self.sessions)),
-            _ => self.delivery(random, packets).unwrap_or_default(),
+            _ => self.delivery(random, &table.packets).unwrap_or_default(),
         };
         damage(&mut bytes, random);
         if random.chance(20) {
@@ -94,18 +97,19 @@ impl World {
         bytes
     }
 
-    /// The next event, with the packets that are in flight.
-    pub fn event(&self, random: &mut Random, packets: &[Packet]) -> Vec<u8> {
+    /// The next event on this table.
+    pub fn event(&self, random: &mut Random, table: &Table) -> Vec<u8> {
+        let packets = &table.packets;
         match random.under(100) {
             0..=11 => self.join(random),
-            12..=19 => self.change(random),
+            12..=19 => self.change(random, table),
             20..=25 => leave(random.one_of(&self.sessions)),
             26 => {
                 let number = random.one_of(&self.links);
                 link(number, self.rate(random))
             }
             27..=29 => deliver(random.under(packets.len() + 2)),
-            30..=33 => self.damaged(random, packets),
+            30..=33 => self.damaged(random, table),
             _ => match self.delivery(random, packets) {
                 Some(record) => record,
                 None => self.join(random),

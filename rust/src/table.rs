@@ -10,7 +10,7 @@ use crate::{raw, Refused, SESSIONS, TABLE_WORDS};
 /// |---|---|
 /// | 0 | 64 links of 3 words: capacity (0: not declared), the words of R and F, bit s for session s |
 /// | 192 | 64 times 32 entries of 3 words, link by link: state (0 idle, 1 waiting for a probe, 2 waiting for a response), numerator and denominator of the rate |
-/// | 6336 | 32 sources of 24 words: active, access rate, maximum, whether the source's own F holds the session, state, whether an update was noted, whether a bottleneck was, whether a rate was told; numerator and denominator of the rate, then of the rate told; the length of the path (0: never joined), three words that are not used, the 8 links of the path |
+/// | 6336 | 32 sources of 24 words: active, access rate, maximum (0: none, else at most the access rate), whether the source's own F holds the session, state, whether an update was noted, whether a bottleneck was, whether a rate was told; numerator and denominator of the rate, then of the rate told; the length of the path (0: never joined), three words that are not used, the 8 links of the path |
 /// | 7104 | 256 packets of 8 words: session, hop, 1 for downstream, kind (0 Join, 1 Probe, 2 Response, 3 Update, 4 Bottleneck, 5 SetBottleneck, 6 Leave), numerator, denominator, the link that imposed the rate (64: the source's own line), and what a Response (0 RESPONSE, 1 UPDATE, 2 BOTTLENECK) or SetBottleneck (1 with a bottleneck) says |
 /// | 9152 | how many packets are in flight |
 ///

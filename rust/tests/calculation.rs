@@ -1,4 +1,4 @@
-//! The calculation: document 01's examples, refusals, and lent slices.
+//! The calculation: the examples of documents 01 and 02, refusals, and lent slices.
 
 use std::fs;
 use std::path::Path;
@@ -17,9 +17,23 @@ fn example(name: &str) -> (Vec<u8>, String) {
 }
 
 #[test]
-fn the_examples_of_01() {
+fn the_examples() {
     let names = [
-        "p1", "p2", "p3", "p4", "p5", "p6", "p7", "p8", "p9", "p10", "p11", "p12a", "p12b", "p13",
+        "p1",
+        "p2",
+        "p3",
+        "p4",
+        "p5",
+        "p6",
+        "p7",
+        "p8",
+        "p9",
+        "p10",
+        "p11",
+        "p12a",
+        "p12b",
+        "p13",
+        "refused_16",
     ];
     for name in names {
         let (records, text) = example(name);

@@ -1,4 +1,4 @@
-//! The machine: document 01's examples, refusals, what sessions were told, handed tables.
+//! The machine: the examples of documents 01 and 02, refusals, what sessions were told, handed tables.
 
 use std::fs;
 use std::path::Path;
@@ -39,6 +39,7 @@ fn the_examples_for_steps() {
         "refused_11",
         "refused_12",
         "refused_13",
+        "refused_16",
     ];
     for name in names {
         let read = |end: &str| {
@@ -87,6 +88,34 @@ fn a_refused_record_changes_no_word() {
     assert_eq!((ran.taken, ran.refused), (1, refused(11, 3)));
     assert_eq!(ran.to_string(), "taken 1, refused 11 at 3");
     assert_eq!(table.words(), once.words());
+}
+
+// The access rate of session 0 is 100 (02, §1).
+#[test]
+fn a_maximum_above_the_access_rate() {
+    let change = |maximum: u8| [4, 0, 0, 0, 0, maximum];
+    let mut table = joined();
+    let before = table.words().to_vec();
+    let ran = table.run(&change(101));
+    assert_eq!((ran.taken, ran.refused), (0, refused(16, 0)));
+    assert_eq!(table.words()[..], before);
+    assert_eq!(
+        ran.refused.expect("a refusal").reason(),
+        "a maximum above the session's access rate"
+    );
+    for maximum in [100, 99, 0] {
+        assert_eq!(table.run(&change(maximum)).refused, None);
+    }
+    // 9 comes first: session 1 is not active.
+    assert_eq!(table.run(&[4, 1, 0, 0, 0, 101]).refused, refused(9, 0));
+    // A table handed in with such a maximum, which is the third word of its source.
+    let mut words = table.into_words();
+    for (maximum, fault) in [(100, None), (101, refused(14, 0)), (0, None)] {
+        words[6336 + 2] = maximum;
+        let mut table = Table::from_words(words.clone());
+        assert_eq!(table.settled().err(), fault);
+        assert_eq!(table.run(&[]).refused, fault);
+    }
 }
 
 #[test]

@@ -5,7 +5,9 @@
 use std::collections::{BTreeMap, BTreeSet};
 
 use crate::fraction::Fraction;
-use crate::records::{own_limit, read, Kind, Record, Refusal, Refused, INPUT_BYTES, OWN, SESSIONS};
+use crate::records::{
+    own_limit, read, within_access, Kind, Record, Refusal, Refused, INPUT_BYTES, OWN, SESSIONS,
+};
 
 /// What an accepted input declared, one bit for each number.
 #[derive(Clone, Copy, Debug, PartialEq, Eq)]
@@ -46,7 +48,8 @@ type Rates = BTreeMap<usize, Fraction>;
 
 /// Calculates the rates of the sessions that `input` declares. Writes numerator, denominator and
 /// binding place (64: own, else the link) of each declared session at its number, and no other
-/// place; a refusal writes nothing. The order of the tests is 15, 1, then each record's 2 to 8.
+/// place; a refusal writes nothing. The order of the tests is 15, 1, then each record's 2 to 7,
+/// 16 and 8 (02, §1).
 pub fn calculate(
     input: &[u8],
     nums: &mut [u64],
@@ -84,7 +87,7 @@ fn read_network(input: &[u8]) -> Result<Network, Refused> {
     Ok(network)
 }
 
-// Refusals 7 and 8.
+// Refusals 7, 16 of a session (02, §1: directly after 7), and 8.
 fn declare(network: &mut Network, record: Record) -> Result<(), Refusal> {
     match record {
         Record::Link { link, capacity } => {
@@ -102,6 +105,7 @@ fn declare(network: &mut Network, record: Record) -> Result<(), Refusal> {
             if network.sessions.contains_key(&session) {
                 return Err(Refusal::AlreadyThere);
             }
+            within_access(access, maximum)?;
             if !path
                 .iter()
                 .all(|link| network.capacities.contains_key(link))

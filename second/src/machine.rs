@@ -23,7 +23,8 @@ pub struct Ran {
 }
 
 /// Runs the records of `input` over the table. The order of the tests is 14, 1, then each record's
-/// 2 to 13 in number order.
+/// 2 to 13 in number order, with 16 directly after 7 in a session record and directly after 9 in a
+/// change (02, §1).
 pub fn run(table: &mut Table, input: &[u8]) -> Ran {
     let refused_whole = |refusal: Refusal| Ran {
         taken: 0,

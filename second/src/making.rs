@@ -1,7 +1,8 @@
 //! Records as bytes (01, "Records"), the choice of the packet to deliver, and numbers at the limits: what all share that try
 //! this implementation or compare with it.
 
-use crate::machine::table::Packet;
+use crate::machine::table::{Packet, Table};
+use crate::records::RATE_LIMIT;
 
 /// Numbers at the limits of the fields, and next to them.
 pub const ODD_NUMBERS: [u64; 24] = [
@@ -74,6 +75,24 @@ pub fn change(number: u8, maximum: u32) -> Vec<u8> {
 /// Kind 5: deliver.
 pub fn deliver(position: usize) -> Vec<u8> {
     [&[5][..], &(position as u16).to_be_bytes()].concat()
+}
+
+/// The access rate that the table holds of a session, within the limits also where the table's field is
+/// not: what a change's maximum is held to (02, §1).
+pub fn held_access(table: &Table, number: u8) -> u32 {
+    let access = table.sources[usize::from(number)].access;
+    access.clamp(1, RATE_LIMIT) as u32
+}
+
+/// A maximum above this access rate, which is refused 16 (02, §1), or 5 where it is past the limit as
+/// well: one above it, with a zero too many, or any larger one. `under` gives a number under another.
+pub fn maximum_above(access: u32, mut under: impl FnMut(usize) -> usize) -> u32 {
+    let above_limit = RATE_LIMIT as usize + 1;
+    match under(3) {
+        0 => access + 1,
+        1 => access * 10,
+        _ => access + 1 + under(above_limit - access as usize) as u32,
+    }
 }
 
 /// Whether no earlier packet has the same session, hop and direction (01, "Added here").

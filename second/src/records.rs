@@ -1,5 +1,5 @@
 //! The records (01, "Records"), the limits (01, "What the order covers") and the refusal numbers
-//! (01, "What is turned away"). Reading one record tests refusals 2 to 6, which need no table.
+//! (01, "What is turned away", and 02). Reading one record tests refusals 2 to 6, which need no table.
 
 /// Links are numbered 0 to 63.
 pub const LINKS: usize = 64;
@@ -20,7 +20,7 @@ pub const UNUSED: u8 = 255;
 /// The number that stands for a session's own line where a link is named: one past the links.
 pub const OWN: u64 = 64;
 
-/// The refusals of document 01, each with its number.
+/// The refusals of documents 01 and 02, each with its number.
 #[derive(Clone, Copy, Debug, PartialEq, Eq)]
 pub enum Refusal {
     /// Input longer than 32,768 bytes.
@@ -53,10 +53,12 @@ pub enum Refusal {
     TableDamaged = 14,
     /// A lent answer slice has fewer than 32 places.
     SliceTooShort = 15,
+    /// A nonzero maximum above the session's access rate (02, §1).
+    MaximumAboveAccess = 16,
 }
 
 impl Refusal {
-    /// The number that document 01 gives this refusal.
+    /// The number that the documents give this refusal.
     pub fn number(self) -> u64 {
         self as u64
     }
@@ -74,7 +76,7 @@ impl Refusal {
 /// and 15).
 #[derive(Clone, Copy, Debug, PartialEq, Eq)]
 pub struct Refused {
-    /// 1 to 15.
+    /// 1 to 16.
     pub number: u64,
     /// Counted in bytes from the start of the input.
     pub place: u64,
@@ -178,6 +180,20 @@ pub fn own_limit(access: u64, maximum: u64) -> u64 {
     } else {
         access.min(maximum)
     }
+}
+
+/// Whether a maximum is a nonzero one larger than the session's access rate, which is a mistake (02,
+/// §1). One that equals the access rate is none, and 0 means that there is no maximum.
+pub fn is_above_access(access: u64, maximum: u64) -> bool {
+    maximum != 0 && maximum > access
+}
+
+/// Refusal 16.
+pub fn within_access(access: u64, maximum: u64) -> Result<(), Refusal> {
+    if is_above_access(access, maximum) {
+        return Err(Refusal::MaximumAboveAccess);
+    }
+    Ok(())
 }
 
 /// Reads the record whose kind byte stands at `place`: the record and the place after it, or the

@@ -42,7 +42,7 @@ nines = replicate 32 9
 abbrev shown : List ℕ → ℕ → List ℕ
 shown l n = l ++ replicate n 9
 
--- what an outcome says, in 01's numbers, and the three slices
+-- what an outcome says, in the documents' numbers, and the three slices
 record Shown : Type 0 where
   said : Said
   nums : List ℕ

@@ -71,7 +71,7 @@ calculateOf s nums dens places =
     (cond (ltb inputLimit (length s)) (refusing (calculated.Refused refusal.TooLong 0) nums dens places)
     (afterRecords (declarationsOf s .end) (declarationsOf s .declared) nums dens places))
 
--- 01's number and values of an answer: 0 with the declared links and sessions, or the number of the refusal with its place
+-- the documents' number and values of an answer: 0 with the declared links and sessions, or the number of the refusal with its place
 pub record Said : Type 0 where
   pub number : ℕ
   pub place : ℕ

@@ -2,3 +2,4 @@
 pub mod OwnLimit
 pub mod Fields
 pub mod KeepsRanges
+mod Order

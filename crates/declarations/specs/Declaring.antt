@@ -1,4 +1,4 @@
--- The declared links and sessions, and what a record of kind 1 or 2 does to them (01, "Records", refusals 7 and 8).
+-- The declared links and sessions, and what a record of kind 1 or 2 does to them (01, "Records", refusals 7 and 8; 02, §1, refusal 16).
 -- Assumes nothing: definitions.
 use mathlib.Core.Bool.{Bool, cond}
 use mathlib.Core.List.{List}
@@ -7,7 +7,7 @@ use lib.Dec.{eqb, leb}
 use lib.ListN.{getD, replicate, set}
 use Rattle.sessions.specs.Set.{hasOf, put}
 use Rattle.records.specs.Format.{all}
-use Rattle.records.specs.Limits.{pathLimit}
+use Rattle.records.specs.Limits.{aboveLine, pathLimit}
 use Rattle.records.specs.Run.{runOf}
 use Rattle.records.specs.declared.Call.the-variants as call
 use Rattle.records.specs.declared.Record.{Record}
@@ -38,12 +38,14 @@ noneDeclared =
 unfoldable pub pathDeclared : ℕ → List ℕ → ℕ → ℕ → Bool
 pathDeclared links s at n = all n (λ h. hasOf (getD s (at + h) 0) links)
 
--- whether a record of the input s is taken, where these links and sessions are declared: refusals 7 and 8. The calculation takes no other kinds.
+-- whether a record of the input s is taken, where these links and sessions are declared: refusals 7, 16 (02, §1: directly after 7) and 8. The
+-- calculation takes no other kinds.
 unfoldable pub judgeOf : List ℕ → ℕ → ℕ → Record → Verdict
 judgeOf s links sessions (rec.Link e capacity) = cond (hasOf e links) (verdict.Refused refusal.AlreadyThere) verdict.Taken
 judgeOf s links sessions (rec.Session t access maximum n at) =
     cond (hasOf t sessions) (verdict.Refused refusal.AlreadyThere)
-    (cond (pathDeclared links s at n) verdict.Taken (verdict.Refused refusal.UndeclaredLink))
+    (cond (aboveLine access maximum) (verdict.Refused refusal.AboveLine)
+    (cond (pathDeclared links s at n) verdict.Taken (verdict.Refused refusal.UndeclaredLink)))
 judgeOf s links sessions (rec.Leave t) = verdict.Refused refusal.KindNotTaken
 judgeOf s links sessions (rec.Change t maximum) = verdict.Refused refusal.KindNotTaken
 judgeOf s links sessions (rec.Deliver position) = verdict.Refused refusal.KindNotTaken

@@ -56,7 +56,7 @@ pub fn path_declared(links: u64, s: &[u8], at: usize, n: usize) -> bool
     true
 }
 
-// Whether a record is taken: refusals 7 and 8.
+// Whether a record is taken: refusals 7, 16 and 8.
 fn judge(links: u64, declared: u32, s: &[u8], x: Record) -> Verdict
     requires { ⌜ RecordOk (now s) x ⌝ }
     ensures { λ r. ⌜ r ≡ judgeOf (now (s .entry)) links declared x ⌝ }
@@ -70,13 +70,16 @@ fn judge(links: u64, declared: u32, s: &[u8], x: Record) -> Verdict
         }
         Record::Session {
             session,
-            access: _,
-            maximum: _,
+            access,
+            maximum,
             size,
             path,
         } => {
             if sessions::has(declared, session) {
                 return Verdict::Refused(Refusal::AlreadyThere);
+            }
+            if records::above_line(access, maximum) {
+                return Verdict::Refused(Refusal::AboveLine);
             }
             if !path_declared(links, s, path, size) {
                 return Verdict::Refused(Refusal::UndeclaredLink);

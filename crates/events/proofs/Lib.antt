@@ -3,3 +3,4 @@ mod Rooms
 mod Needs
 mod Steps
 pub mod Refusals
+pub mod Order

@@ -9,6 +9,7 @@ use native.Mathlib.Omega.{arith}
 use Rattle.ends.specs.declared.SourceDid.{SourceDid}
 use Rattle.ends.specs.Figure3.{changingOf, joiningOf, leavingOf, sourceStepOf}
 use Rattle.ends.specs.Figure4.{destinationStepOf}
+use Rattle.records.specs.Limits.{aboveLine}
 use Rattle.records.specs.declared.Record.{Record}
 use Rattle.records.specs.declared.Record.the-variants as rec
 use Rattle.records.specs.declared.Refusal.{Refusal}
@@ -77,9 +78,10 @@ joins : (s w : List ℕ) (t access maximum n at : ℕ) → Keeps w (joinOf s w t
 unfolding joinOf
 joins s w t access maximum n at =
     either w (sourceOf w t .active) _ _ (refuses w _)
+    (either w (aboveLine access maximum) _ _ (refuses w _)
     (either w (pathDeclaredIn w s at n) _ _
     (either w (noneOf w t (countOf w)) _ _ (sends w (putHops (putPath w t s at) t n) t (joiningOf access maximum)) (refuses w _))
-    (refuses w _))
+    (refuses w _)))
 
 leaves : (w : List ℕ) (t : ℕ) → Keeps w (leaveOf w t)
 unfolding leaveOf
@@ -87,7 +89,10 @@ leaves w t = either w (sourceOf w t .active) _ _ (sends w w t (leavingOf (source
 
 changes : (w : List ℕ) (t m : ℕ) → Keeps w (changeOf w t m)
 unfolding changeOf
-changes w t m = either w (sourceOf w t .active) _ _ (sends w w t (changingOf (sourceOf w t) m)) (refuses w _)
+changes w t m =
+    either w (sourceOf w t .active) _ _
+    (either w (aboveLine (sourceOf w t .access) m) _ _ (refuses w _) (sends w w t (changingOf (sourceOf w t) m)))
+    (refuses w _)
 
 pub refused-keeps : (s w : List ℕ) (x : Record) (r : Refusal) → eventOf s w x .verdict ≡ verdict.Refused r → eventOf s w x .words ≡ w
 unfolding eventOf

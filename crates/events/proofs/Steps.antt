@@ -11,6 +11,7 @@ use Rattle.ends.specs.declared.SourceDid.{SourceDid}
 use Rattle.ends.specs.Figure3.{changingOf, joiningOf, leavingOf, sourceStepOf}
 use Rattle.ends.specs.Figure4.{destinationStepOf}
 use Rattle.fractions.proofs.Cases.{chosen, not-false, not-true}
+use Rattle.records.specs.Limits.{aboveLine}
 use Rattle.records.specs.declared.Refusal.the-variants as refusal
 use Rattle.sessions.specs.Set.{sizeOf}
 use Rattle.table.specs.Words.{countOf, placeOf, putHops, putPath, putPlace, putSource, removed, sourceOf}
@@ -119,17 +120,35 @@ module _ (w : List ℕ) (t : ℕ) (z : Source) (is : z ≡ sourceOf w t) where
       chosen (sourceOf w t .active) _ (sourceSends w w t (leavingOf (sourceOf w t))) (refusing refusal.NotActive w) (active-is ∙ h)
       ∙ ap (sourceSends w w t) (ap leavingOf (sym is) ∙ sym e)
 
-  pub change-not : (m : ℕ) → z .active ≡ false → changeOf w t m ≡ refusing refusal.NotActive w
-  unfolding changeOf
-  change-not m h = chosen (sourceOf w t .active) _ (sourceSends w w t (changingOf (sourceOf w t) m)) (refusing refusal.NotActive w) (active-is ∙ h)
+  module _ (m : ℕ) where
+    abbrev changes : Step
+    changes = sourceSends w w t (changingOf (sourceOf w t) m)
 
-  pub change-does : (m : ℕ) → z .active ≡ true → (d : SourceDid) → d ≡ changingOf z m → changeOf w t m ≡ sourceSends w w t d
-  unfolding changeOf
-  change-does m h d e =
-      chosen (sourceOf w t .active) _ (sourceSends w w t (changingOf (sourceOf w t) m)) (refusing refusal.NotActive w) (active-is ∙ h)
-      ∙ ap (sourceSends w w t) (ap (λ (x : Source). changingOf x m) (sym is) ∙ sym e)
+    abbrev unlessAbove : Step
+    unlessAbove = cond (aboveLine (sourceOf w t .access) m) (refusing refusal.AboveLine w) changes
 
--- a session that is not active joins, where its links are declared and none of its packets is in flight
+    pub change-not : z .active ≡ false → changeOf w t m ≡ refusing refusal.NotActive w
+    unfolding changeOf
+    change-not h = chosen (sourceOf w t .active) _ unlessAbove (refusing refusal.NotActive w) (active-is ∙ h)
+
+    module _ (h : z .active ≡ true) (r : Bool) (er : r ≡ aboveLine (z .access) m) where
+      is-active : changeOf w t m ≡ unlessAbove
+      unfolding changeOf
+      is-active = chosen (sourceOf w t .active) _ unlessAbove (refusing refusal.NotActive w) (active-is ∙ h)
+
+      above-is : aboveLine (sourceOf w t .access) m ≡ r
+      above-is = ap (λ (x : Source). aboveLine (x .access) m) (sym is) ∙ sym er
+
+      pub change-above : r ≡ true → changeOf w t m ≡ refusing refusal.AboveLine w
+      change-above k = is-active ∙ chosen (aboveLine (sourceOf w t .access) m) _ (refusing refusal.AboveLine w) changes (above-is ∙ k)
+
+      pub change-does : r ≡ false → (d : SourceDid) → d ≡ changingOf z m → changeOf w t m ≡ sourceSends w w t d
+      change-does k d e =
+          is-active
+          ∙ (chosen (aboveLine (sourceOf w t .access) m) _ (refusing refusal.AboveLine w) changes (above-is ∙ k)
+          ∙ ap (sourceSends w w t) (ap (λ (x : Source). changingOf x m) (sym is) ∙ sym e))
+
+-- a session that is not active joins, where its maximum is not above the line, its links are declared and none of its packets is in flight
 module _ (s w : List ℕ) (t access maximum n at : ℕ) (z : Source) (is : z ≡ sourceOf w t) where
   abbrev joins : Step
   joins = sourceSends w (putHops (putPath w t s at) t n) t (joiningOf access maximum)
@@ -140,21 +159,30 @@ module _ (s w : List ℕ) (t access maximum n at : ℕ) (z : Source) (is : z ≡
   abbrev ifDeclared : Step
   ifDeclared = cond (pathDeclaredIn w s at n) unlessLeaving (refusing refusal.UndeclaredLink w)
 
+  abbrev unlessAboveLine : Step
+  unlessAboveLine = cond (aboveLine access maximum) (refusing refusal.AboveLine w) ifDeclared
+
   pub join-active : z .active ≡ true → joinOf s w t access maximum n at ≡ refusing refusal.AlreadyThere w
   unfolding joinOf
-  join-active h = chosen (sourceOf w t .active) _ (refusing refusal.AlreadyThere w) ifDeclared (active-is w t z is ∙ h)
+  join-active h = chosen (sourceOf w t .active) _ (refusing refusal.AlreadyThere w) _ (active-is w t z is ∙ h)
 
-  module _ (h : z .active ≡ false) (r : Bool) (er : r ≡ pathDeclaredIn w s at n) where
-    not-active : joinOf s w t access maximum n at ≡ ifDeclared
-    unfolding joinOf
-    not-active = chosen (sourceOf w t .active) _ (refusing refusal.AlreadyThere w) ifDeclared (active-is w t z is ∙ h)
+  not-active : z .active ≡ false → joinOf s w t access maximum n at ≡ unlessAboveLine
+  unfolding joinOf
+  not-active h = chosen (sourceOf w t .active) _ (refusing refusal.AlreadyThere w) unlessAboveLine (active-is w t z is ∙ h)
+
+  pub join-above : z .active ≡ false → aboveLine access maximum ≡ true → joinOf s w t access maximum n at ≡ refusing refusal.AboveLine w
+  join-above h b = not-active h ∙ chosen (aboveLine access maximum) _ (refusing refusal.AboveLine w) ifDeclared b
+
+  module _ (h : z .active ≡ false) (b : aboveLine access maximum ≡ false) (r : Bool) (er : r ≡ pathDeclaredIn w s at n) where
+    not-above : joinOf s w t access maximum n at ≡ ifDeclared
+    not-above = not-active h ∙ chosen (aboveLine access maximum) _ (refusing refusal.AboveLine w) ifDeclared b
 
     pub join-undeclared : r ≡ false → joinOf s w t access maximum n at ≡ refusing refusal.UndeclaredLink w
-    join-undeclared k = not-active ∙ chosen (pathDeclaredIn w s at n) _ unlessLeaving (refusing refusal.UndeclaredLink w) (sym er ∙ k)
+    join-undeclared k = not-above ∙ chosen (pathDeclaredIn w s at n) _ unlessLeaving (refusing refusal.UndeclaredLink w) (sym er ∙ k)
 
     module _ (k : r ≡ true) (c : ℕ) (q : Bool) (ec : c ≡ countOf w) (eq : q ≡ noneOf w t c) where
       declared : joinOf s w t access maximum n at ≡ unlessLeaving
-      declared = not-active ∙ chosen (pathDeclaredIn w s at n) _ unlessLeaving (refusing refusal.UndeclaredLink w) (sym er ∙ k)
+      declared = not-above ∙ chosen (pathDeclaredIn w s at n) _ unlessLeaving (refusing refusal.UndeclaredLink w) (sym er ∙ k)
 
       none-is : noneOf w t (countOf w) ≡ q
       none-is = ap (noneOf w t) (sym ec) ∙ sym eq

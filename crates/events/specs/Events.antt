@@ -1,5 +1,5 @@
 -- The events of the machine (01, "Records", "What is turned away"): what each record that was read does to the words w, and refusals 7 to 13 in
--- number order. A refused record leaves the words as they were.
+-- number order, with 16 (02, §1) directly after 7 and after 9. A refused record leaves the words as they were.
 -- Assumes nothing: definitions.
 use mathlib.Core.Bool.{Bool, cond, _&&_}
 use mathlib.Core.List.{List}
@@ -17,7 +17,7 @@ use Rattle.records.specs.declared.Refusal.the-variants as refusal
 use Rattle.records.specs.declared.Verdict.{Verdict}
 use Rattle.records.specs.declared.Verdict.the-variants as verdict
 use Rattle.records.specs.Format.{all}
-use Rattle.records.specs.Limits.{linkLimit, packetLimit}
+use Rattle.records.specs.Limits.{aboveLine, linkLimit, packetLimit}
 use Rattle.sessions.specs.Set.{sizeOf}
 use Rattle.table.specs.Words.{countOf, declaredIn, hopsOf, packetOf, placeOf, putHops, putLink, putPath, putPlace, putSource, removed, sourceOf, stopOf}
 use Rattle.tasks.specs.declared.Packet.{Packet}
@@ -95,21 +95,25 @@ pathDeclaredIn w s at n = all n (λ h. ltb (getD s (at + h) 0) linkLimit && decl
 unfoldable pub sourceSends : List ℕ → List ℕ → ℕ → SourceDid → Step
 sourceSends w v t d = unlessMany (countOf w + oneIf (d .on)) w (sendOnOf (putSource v t (d .source)) t 0 (d .on))
 
--- kind 2: a session joins over n links, whose bytes stand in the input s: refusals 7, 8, 10 and 13
+-- kind 2: a session joins over n links, whose bytes stand in the input s: refusals 7, 16 (02, §1), 8, 10 and 13
 unfoldable pub joinOf : List ℕ → List ℕ → ℕ → ℕ → ℕ → ℕ → ℕ → Step
 joinOf s w t access maximum n at =
     cond (sourceOf w t .active) (refusing refusal.AlreadyThere w)
+    (cond (aboveLine access maximum) (refusing refusal.AboveLine w)
     (cond (pathDeclaredIn w s at n)
     (cond (noneOf w t (countOf w)) (sourceSends w (putHops (putPath w t s at) t n) t (joiningOf access maximum)) (refusing refusal.StillLeaving w))
-    (refusing refusal.UndeclaredLink w))
+    (refusing refusal.UndeclaredLink w)))
 
 -- kind 3: a session leaves: refusals 9 and 13
 unfoldable pub leaveOf : List ℕ → ℕ → Step
 leaveOf w t = cond (sourceOf w t .active) (sourceSends w w t (leavingOf (sourceOf w t))) (refusing refusal.NotActive w)
 
--- kind 4: a session changes its maximum: refusals 9 and 13
+-- kind 4: a session changes its maximum: refusals 9, 16 (02, §1: against the access rate that its source holds) and 13
 unfoldable pub changeOf : List ℕ → ℕ → ℕ → Step
-changeOf w t maximum = cond (sourceOf w t .active) (sourceSends w w t (changingOf (sourceOf w t) maximum)) (refusing refusal.NotActive w)
+changeOf w t maximum =
+    cond (sourceOf w t .active)
+    (cond (aboveLine (sourceOf w t .access) maximum) (refusing refusal.AboveLine w) (sourceSends w w t (changingOf (sourceOf w t) maximum)))
+    (refusing refusal.NotActive w)
 
 -- A RECORD ------------------------------------------------------------------------------------------------------------
 

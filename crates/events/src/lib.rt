@@ -1,4 +1,4 @@
-// The events of the machine: what each record does to the lent words, and refusals 7 to 13 (01, "What is turned away").
+// The events of the machine: what each record does to the lent words, and refusals 7 to 13 and 16 (01, "What is turned away"; 02, §1).
 // A step is worked out on values with all its refusals before a word is written.
 use ends::SourceDid;
 use links::Link;
@@ -242,6 +242,9 @@ fn join(
     if z.active {
         return Verdict::Refused(Refusal::AlreadyThere);
     }
+    if records::above_line(access, maximum) {
+        return Verdict::Refused(Refusal::AboveLine);
+    }
     if !path_declared(t, s, at, n) {
         return Verdict::Refused(Refusal::UndeclaredLink);
     }
@@ -280,13 +283,16 @@ fn change(t: &mut [u64; 9153], x: u32, maximum: u64) -> Verdict
     if !z.active {
         return Verdict::Refused(Refusal::NotActive);
     }
+    if records::above_line(z.access, maximum) {
+        return Verdict::Refused(Refusal::AboveLine);
+    }
     let d = ends::changing(z, maximum);
     source_sends(t, x, d)
 }
 
 // A RECORD ------------------------------------------------------------------------------------------------------------
 
-// What a record does, and whether it is taken: refusals 7 to 13.
+// What a record does, and whether it is taken: refusals 7 to 13 and 16.
 pub fn event(t: &mut [u64; 9153], s: &[u8], x: Record) -> Verdict
     requires { ⌜ RecordOk (now s) x ⌝ }
     ensures exact { λ r. ⌜ ended r (now (t .exit)) ≡ eventOf (now (s .entry)) (now (t .entry)) x ⌝ }

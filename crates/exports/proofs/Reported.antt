@@ -21,7 +21,7 @@ use Rattle.records.specs.declared.Refusal.the-variants as refusal
 use Rattle.exports.specs.Meanings.{FairWhereTaken, SettledMeans}
 use Rattle.exports.specs.Reports.{calculationReportOf, endReportOf, runReportOf, settledNumberOf}
 
--- 01's numbers start at 1
+-- the documents' numbers start at 1
 numbered : (r : Refusal) → 0 < numberOf r
 numbered refusal.TooLong = omega arith
 numbered refusal.KindNotTaken = omega arith
@@ -38,6 +38,7 @@ numbered refusal.TooFine = omega arith
 numbered refusal.TooManyPackets = omega arith
 numbered refusal.BadTable = omega arith
 numbered refusal.ShortSlice = omega arith
+numbered refusal.AboveLine = omega arith
 
 -- a calculation's report, from what the calculation comes to
 pub calculation-reported : (a : Calculated) (report : List ℕ) (o : Outcome) → a ≡ o .answer → report ≡ calculationReportOf a → report ≡ calculationReportOf (o .answer)

@@ -1,4 +1,4 @@
--- What the exported calls report, as words (include/umbraconga.h): the answers of the library's calls, by 01's numbers.
+-- What the exported calls report, as words (include/umbraconga.h): the answers of the library's calls, by the documents' numbers.
 -- Assumes nothing: definitions.
 use mathlib.Core.List.{List, [], _∷_}
 use Prim.Native.Nat.{ℕ}

@@ -1,4 +1,4 @@
-// The library's entry points for Rust and C (include/umbraconga.h): each calls the entry point of its name and writes its answer as 01's numbers.
+// The library's entry points for Rust and C (include/umbraconga.h): each calls the entry point of its name and writes its answer as the documents' numbers.
 // They take every input: a table or a slice that is turned away is reported by its number and left as it was.
 ghost use mathlib.Core.Path.{_≡_};
 ghost use Rattle.calculation.specs.Calculating.{calculateOf};

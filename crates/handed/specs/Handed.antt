@@ -1,4 +1,5 @@
--- 01, refusal 14: the test of a table that is handed in, one definition for each clause of its sentence. w is the table's words.
+-- 01, refusal 14, and 02, §1: the test of a table that is handed in, one definition for each clause of 01's sentence; 02's clause, that no maximum is
+-- above its access rate, is asked with the ranges of a source's words (`numbersFit`, ranges/specs/Ranges.antt). w is the table's words.
 -- Only what is in use is looked at: an entry where its session is in R or F, a source whose session has joined, the links of a path, the packets in
 -- flight, of these the words that their kind uses, and a told rate where one was told. Of every session it is looked at whether it is active and how
 -- long its path is.
@@ -32,7 +33,7 @@ rowInRange w e = all 32 (entryInRange w e)
 unfoldable pub entriesInRange : List ℕ → Bool
 entriesInRange w = all 64 (rowInRange w)
 
--- an active session has a path
+-- of a session that has joined its words, the clause of 02, §1 among them; an active session has a path
 unfoldable pub sourceInRange : List ℕ → ℕ → Bool
 sourceInRange w s = standingFits w s && cond (hasJoined w s) (sourceFits w s) (not (sourceOf w s .active))
 

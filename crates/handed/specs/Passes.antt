@@ -21,7 +21,7 @@ pub record LeaveToCome (w : List ℕ) (s h : ℕ) : Type 0 where
   pub hop : packetOf w place .hop ≤ h
 
 pub record Passes (w : List ℕ) : Type 0 where
-  -- fields in their ranges, rates in lowest terms
+  -- fields in their ranges, rates in lowest terms, and, in `sources`, no maximum above its access rate (02, §1)
   pub count : countFits w ≡ true
   pub links : (e : ℕ) → e < 64 → linkFits w e ≡ true
   pub entries : (e s : ℕ) → e < 64 → s < 32 → holds (placeOf w e) s ≡ true → entryFits w e s ≡ true

@@ -11,7 +11,7 @@ ghost use Rattle.handed.specs.OnceOver.{linkPasses, memberPasses, packet
 
 // A SESSION: ITS WORDS AND ITS PATH -----------------------------------------------------------------------------------
 
-// "A field outside its range, a rate not in lowest terms". An active session has a path.
+// "A field outside its range, a rate not in lowest terms"; 02, §1: no maximum above its access rate. An active session has a path.
 fn source_in_range(t: &[u64; 9153], s: usize) -> bool
     requires { ⌜ s < 32 ⌝ }
     ensures { λ r. ⌜ r ≡ sourceInRange (now (t .entry)) s ⌝ }

@@ -1,16 +1,17 @@
 -- 01, refusal 14: where a test passes, what is read there is what the words say, with rates in lowest terms.
 -- Assumes nothing.
-use mathlib.Core.Bool.{Bool, _&&_, cond, true}
+use mathlib.Core.Bool.{Bool, _&&_, cond, not, true}
 use mathlib.Core.List.{List}
 use mathlib.Core.Path.{_≡_, ap, refl, subst, sym, _∙_}
 use Prim.Native.Nat.{ℕ, zero, suc, _+_, _*_, _<_}
 use native.Mathlib.Omega.{arith}
-use borrow.Author.Tests.{leb-true, ltb-true, ne-eqb}
+use borrow.Author.Tests.{leb-true, ltb-false, ltb-true, ne-eqb}
 use lib.Dec.{eqb, leb}
 use lib.ListN.{getD}
 use Rattle.fractions.specs.Fraction.{Within, frac, isRateOf, keptOf, maxRate}
-use Rattle.fractions.proofs.Cases.{and-both, cases}
+use Rattle.fractions.proofs.Cases.{and-both, cases, not-true}
 use Rattle.fractions.proofs.Ranges.{is-rate-within, kept-same, within-sized}
+use Rattle.records.specs.Limits.{aboveLine}
 use Rattle.tasks.specs.declared.Kind.{Kind}
 use Rattle.tasks.specs.declared.Kind.the-variants as kind
 use Rattle.tasks.specs.declared.Packet.{Packet}
@@ -102,7 +103,9 @@ source-fits-means w s h =
     let f = and-both (flagsFit b) _ h in
     let p = and-both (numbersFit b) _ (f .1) in
     let n = and-both _ _ (p .0) in
-    let m = and-both _ (leb (getD w (a + 2) 0) maxRate && leb (getD w (a + 4) 0) 2) (n .1) in
+    let m = and-both _ (leb (getD w (a + 2) 0) maxRate && (not (aboveLine (getD w (a + 1) 0) (getD w (a + 2) 0)) && leb (getD w (a + 4) 0) 2)) (n .1) in
+    let k = and-both (leb (getD w (a + 2) 0) maxRate) (not (aboveLine (getD w (a + 1) 0) (getD w (a + 2) 0)) && leb (getD w (a + 4) 0) 2) (m .1) in
+    let l = and-both (not (aboveLine (getD w (a + 1) 0) (getD w (a + 2) 0))) (leb (getD w (a + 4) 0) 2) (k .1) in
     let q = and-both _ (pathFits w s) (p .1) in
     let r = and-both _ _ (q .0) in
     let i : SourceInRange (sourceOf w s) = source-in-range w s in
@@ -110,6 +113,10 @@ source-fits-means w s h =
       joined = rw (field-same maxRate (getD w (a + 1) 0) (leb-true _ _ (m .0))) (ltb-true _ _ (n .0));
       access = i .access;
       maximum = i .maximum;
+      line =
+          rw
+          (field-same maxRate (getD w (a + 1) 0) (leb-true _ _ (m .0)), field-same maxRate (getD w (a + 2) 0) (leb-true _ _ (k .0)))
+          (ltb-false _ _ (not-true _ (l .0)));
       rate = kept-within (getD w (a + 8) 0) (getD w (a + 8 + 1) 0) (r .0);
       told = told-fits (getD w (a + 7) 0) (getD w (a + 8 + 2) 0) (getD w (a + 8 + 3) 0) (r .1);
     }

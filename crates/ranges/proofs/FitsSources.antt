@@ -6,7 +6,7 @@ use mathlib.Core.Logic.{inl, inr}
 use mathlib.Core.Path.{_≡_, ap, refl, sym, _∙_}
 use Prim.Native.Nat.{ℕ, zero, suc, _+_, _*_, _≤_, _<_}
 use native.Mathlib.Omega.{arith}
-use borrow.Author.Tests.{le-leb, leb-true, lt-ltb}
+use borrow.Author.Tests.{le-leb, le-ltb, leb-true, lt-ltb}
 use lib.Dec.{eqb, leb}
 use lib.ListN.{getD, length}
 use lib.Seq.{getD-set-same}
@@ -89,6 +89,7 @@ numbers-fit-back z g =
       lt-ltb 0 (z .access) (g .joined),
       le-leb (z .access) maxRate (g .access),
       le-leb (z .maximum) maxRate (g .maximum),
+      le-ltb (z .access) (z .maximum) (g .line),
       mu-most (z .mu),
     )
 

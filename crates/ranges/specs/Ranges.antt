@@ -1,11 +1,13 @@
--- 01, refusal 14: the words that are in use are within their ranges. These tests read the words as they stand.
+-- 01, refusal 14: the words that are in use are within their ranges, and (02, §1) no maximum is above its access rate. These tests read the words as
+-- they stand.
 -- Assumes nothing: definitions.
-use mathlib.Core.Bool.{Bool, _&&_, cond, true}
+use mathlib.Core.Bool.{Bool, _&&_, cond, not, true}
 use mathlib.Core.List.{List}
 use Prim.Native.Nat.{ℕ, zero, suc, _+_, _*_}
 use lib.Dec.{eqb, leb, ltb}
 use lib.ListN.{getD}
 use Rattle.fractions.specs.Fraction.{frac, isRateOf, maxRate}
+use Rattle.records.specs.Limits.{aboveLine}
 use Rattle.table.specs.Words.{blockAt}
 
 -- at most 256 packets
@@ -29,9 +31,11 @@ standingFits w s = leb (getD w (6336 + s * 24) 0) 1 && leb (getD w (6336 + s * 2
 unfoldable pub flagsFit : List ℕ → Bool
 flagsFit b = leb (getD b 0 0) 1 && (leb (getD b 3 0) 1 && (leb (getD b 5 0) 1 && (leb (getD b 6 0) 1 && leb (getD b 7 0) 1)))
 
--- access, maximum and state
+-- access, maximum and state; the maximum is not above the line (02, §1)
 unfoldable pub numbersFit : List ℕ → Bool
-numbersFit b = ltb 0 (getD b 1 0) && (leb (getD b 1 0) maxRate && (leb (getD b 2 0) maxRate && leb (getD b 4 0) 2))
+numbersFit b =
+    ltb 0 (getD b 1 0)
+    && (leb (getD b 1 0) maxRate && (leb (getD b 2 0) maxRate && (not (aboveLine (getD b 1 0) (getD b 2 0)) && leb (getD b 4 0) 2)))
 
 -- of the next eight: the rate, and the rate told where one was
 unfoldable pub ratesFit : ℕ → List ℕ → Bool

@@ -1,4 +1,5 @@
-// 01, refusal 14: the words in use of a table that is handed in are within their ranges, and their rates in lowest terms.
+// 01, refusal 14: the words in use of a table that is handed in are within their ranges, and their rates in lowest terms; 02, §1: no maximum is above
+// its access rate.
 ghost use mathlib.Core.Bool.{_&&_, true};
 ghost use mathlib.Core.Path.{_≡_};
 ghost use Prim.Native.Nat.{_≤_, _<_};
@@ -104,6 +105,9 @@ fn numbers_fit(b: [u64; 8]) -> bool
         return false;
     }
     if Rate::MAX < b[2] {
+        return false;
+    }
+    if records::above_line(b[1], b[2]) {
         return false;
     }
     b[4] <= 2

@@ -5,7 +5,7 @@ use mathlib.Core.List.{List, [], _∷_, _++_}
 use mathlib.Core.Path.{_≡_, ap, refl, subst, sym, _∙_}
 use Prim.Native.Nat.{ℕ, _+_, _<_, _≤_}
 use native.Mathlib.Omega.{arith}
-use borrow.Author.Tests.{eqb-false, leb-true, ltb-true}
+use borrow.Author.Tests.{eqb-false, leb-true, ltb-false, ltb-true}
 use lib.Dec.{eqb, leb, ltb}
 use lib.ListN.{drop, getD, length}
 use lib.Seq.{getD-drop, getD-take}
@@ -21,6 +21,7 @@ use Rattle.links.specs.declared.Place.{Place}
 use Rattle.links.specs.Links.{isIdle}
 use Rattle.records.proofs.Alls.{all-at}
 use Rattle.records.specs.Format.{differ, isNew, linksOk, pathOk, restOk}
+use Rattle.records.specs.Limits.{aboveLine}
 use Rattle.soundness.specs.Sound.{Held}
 use Rattle.table.specs.Values.{SourceWithin}
 use Rattle.table.specs.Words.{countOf, declaredIn, hopsOf, linkOf, packetOf, packetsOf, pathOf, placeOf, putHops, putPath, putSource, sourceOf, stopOf}
@@ -225,6 +226,8 @@ unfolding joinOf sourceSends joiningOf appendedAll
 join-either P bytes w s access maximum n at ls a0 a1 m1 ok whole i k f =
     cases (λ (x : Step). P (x .words)) (sourceOf w s .active) _ _ (λ t. k)
     (λ t.
+    cases (λ (x : Step). P (x .words)) (aboveLine access maximum) _ _ (λ b. k)
+    (λ b.
     cases (λ (x : Step). P (x .words)) (pathDeclaredIn w bytes at n) _ _
     (λ d.
     cases (λ (x : Step). P (x .words)) (noneOf w s (countOf w)) _ _
@@ -233,6 +236,6 @@ join-either P bytes w s access maximum n at ls a0 a1 m1 ok whole i k f =
     (λ few.
     f _ _
     (joined w i s ls bytes at n (path-is bytes at n ok) whole (path-declared w bytes at n d) t (none-of w s e) _
-    (record { joined = a0; access = a1; maximum = m1; rate = whole-within (omega arith); told = tt }) refl refl few)))
+    (record { joined = a0; access = a1; maximum = m1; line = ltb-false access maximum b; rate = whole-within (omega arith); told = tt }) refl refl few)))
     (λ e. k))
-    (λ d. k))
+    (λ d. k)))

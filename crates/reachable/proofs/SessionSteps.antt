@@ -5,12 +5,14 @@ use mathlib.Core.List.{List, [], _∷_}
 use mathlib.Core.Path.{_≡_, refl, subst, sym}
 use Prim.Native.Nat.{ℕ, _+_, _<_, _≤_}
 use native.Mathlib.Omega.{arith}
+use borrow.Author.Tests.{ltb-false}
 use Rattle.fractions.specs.Fraction.{maxRate}
 use Rattle.ends.specs.declared.SourceDid.{SourceDid}
 use Rattle.ends.specs.Figure3.{changingOf, leavingOf}
 use Rattle.events.specs.Events.{Step, changeOf, leaveOf, sourceSends}
 use Rattle.sending.specs.Sending.{oneIf, sentFrom}
 use Rattle.fractions.proofs.Cases.{cases}
+use Rattle.records.specs.Limits.{aboveLine}
 use Rattle.table.specs.Values.{SourceWithin}
 use Rattle.table.specs.Words.{countOf, hopsOf, packetsOf, putSource, sourceOf}
 use Rattle.tasks.specs.declared.Kind.the-variants as kind
@@ -64,7 +66,7 @@ module _ (P : List ℕ → Type 0) (w : List ℕ) (s : ℕ) (ls : s < 32) (i : S
       (λ a.
       let o = within w s i ls a in
       sends-either (leavingOf (sourceOf w s))
-      (record { joined = o .joined; access = o .access; maximum = o .maximum; rate = o .rate; told = o .told })
+      (record { joined = o .joined; access = o .access; maximum = o .maximum; line = o .line; rate = o .rate; told = o .told })
       (leave-ok w s i ls a) (f a))
       (λ a. k)
 
@@ -75,7 +77,9 @@ module _ (P : List ℕ → Type 0) (w : List ℕ) (s : ℕ) (ls : s < 32) (i : S
   change-either m lm f =
       cases (λ (x : Step). P (x .words)) (sourceOf w s .active) _ _
       (λ a.
+      cases (λ (x : Step). P (x .words)) (aboveLine (sourceOf w s .access) m) _ _ (λ b. k)
+      (λ b.
       let d = changingOf (sourceOf w s) m in
-      let done = changing-done (sourceOf w s) m lm (within w s i ls a) in
-      sends-either d (done .within) (changed-ok w s i ls a d done) (λ v. f a v done))
+      let done = changing-done (sourceOf w s) m lm (ltb-false _ _ b) (within w s i ls a) in
+      sends-either d (done .within) (changed-ok w s i ls a d done) (λ v. f a v done)))
       (λ a. k)

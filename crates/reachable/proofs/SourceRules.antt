@@ -50,7 +50,7 @@ module _ (z : Source) (o : SourceWithin z) where
       → SourceDone z (doing (keeping z f m x u b t) on)
   kept f m x u b t on h k g = record {
     active = refl;
-    within = record { joined = o .joined; access = o .access; maximum = o .maximum; rate = h; told = k };
+    within = record { joined = o .joined; access = o .access; maximum = o .maximum; line = o .line; rate = h; told = k };
     on = g;
   }
 
@@ -105,7 +105,7 @@ module _ (z : Source) (o : SourceWithin z) where
 idle-announced : (z : Source) (x : Rate) → SourceWithin z → Within maxRate x → SourceDone z (announcedOf (idleWith z x))
 idle-announced z x o h =
     let y = idleWith z x in
-    let d = announced-done y (record { joined = o .joined; access = o .access; maximum = o .maximum; rate = h; told = o .told }) in
+    let d = announced-done y (record { joined = o .joined; access = o .access; maximum = o .maximum; line = o .line; rate = h; told = o .told }) in
     record { active = d .active; within = d .within; on = d .on }
 
 response-done : (z : Source) (τ : Tau) (x : Rate) → SourceWithin z → Within maxRate x → SourceDone z (sourceResponseOf z τ x)
@@ -128,9 +128,9 @@ pub source-done : (k : Kind) (z : Source) → KindWithin k → SourceWithin z �
 unfolding sourceStepOf
 source-done k z h o = cases (SourceDone z) (z .active) _ _ (λ e. arrived-done k z h o) (λ e. nothing z o)
 
-pub changing-done : (z : Source) (m : ℕ) → m ≤ maxRate → SourceWithin z → SourceDone z (changingOf z m)
-changing-done z m l o =
-    let d = request-done (withMaximum z m) (record { joined = o .joined; access = o .access; maximum = l; rate = o .rate; told = o .told }) in
+pub changing-done : (z : Source) (m : ℕ) → m ≤ maxRate → m ≤ z .access → SourceWithin z → SourceDone z (changingOf z m)
+changing-done z m l a o =
+    let d = request-done (withMaximum z m) (record { joined = o .joined; access = o .access; maximum = l; line = a; rate = o .rate; told = o .told }) in
     record { active = d .active; within = d .within; on = d .on }
 
 -- Figure 4

@@ -6,3 +6,4 @@ pub mod TakenKinds
 pub mod ReadRecords
 pub mod Runs
 mod PastEnd
+pub mod AboveLine

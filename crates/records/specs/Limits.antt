@@ -1,6 +1,8 @@
--- 01, "What the order covers": the limits.
+-- 01, "What the order covers": the limits; and 02, §1: the limit that a session's access rate is for its maximum.
 -- Assumes nothing: definitions.
+use mathlib.Core.Bool.{Bool}
 use Prim.Native.Nat.{ℕ}
+use lib.Dec.{ltb}
 use Rattle.fractions.specs.Fraction.{maxRate}
 
 -- 64 links numbered 0 to 63
@@ -18,6 +20,10 @@ pathLimit = 8
 -- capacity and access rate 1 to 1,000,000 kbit/s; maximum 1 to 1,000,000, or 0 for no maximum
 abbrev pub rateLimit : ℕ
 rateLimit = maxRate
+
+-- 02, §1: a nonzero maximum larger than the session's access rate. (0, which means none, is larger than no rate.)
+abbrev pub aboveLine : ℕ → ℕ → Bool
+aboveLine access maximum = ltb access maximum
 
 -- 256 packets in flight
 abbrev pub packetLimit : ℕ

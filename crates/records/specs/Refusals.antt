@@ -1,4 +1,4 @@
--- 01, "What is turned away": the refusals and their numbers.
+-- 01, "What is turned away", and 02: the refusals and their numbers.
 -- Assumes nothing: definitions.
 use Prim.Native.Nat.{ℕ}
 use Rattle.records.specs.declared.Refusal.{Refusal}
@@ -20,3 +20,4 @@ numberOf refusal.TooFine = 12  -- a partial sum or B that the rule reads, or one
 numberOf refusal.TooManyPackets = 13  -- more than 256 packets after the step
 numberOf refusal.BadTable = 14  -- a table handed in has a fault
 numberOf refusal.ShortSlice = 15  -- a lent answer slice has fewer than 32 places
+numberOf refusal.AboveLine = 16  -- a nonzero maximum larger than the session's access rate (02, §1)

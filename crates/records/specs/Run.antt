@@ -1,6 +1,6 @@
 -- What a run of records means (01, "Records", "What is turned away"): from the left, each record is read where the one before ended, and acts; the
 -- first that is refused ends it. One definition for all calls that read records: S is what the records act on, `judge` says whether a record is
--- taken, and `act` what it leaves. At the end 01's numbers of what was read, of a verdict and of how a run ended.
+-- taken, and `act` what it leaves. At the end the documents' numbers of what was read, of a verdict and of how a run ended.
 -- Assumes nothing: definitions.
 use mathlib.Core.Bool.{cond}
 use mathlib.Core.List.{List}

@@ -7,6 +7,7 @@ pub use reading::read_at;
 pub use reading::size_at;
 pub use reading::wide;
 ghost use mathlib.Core.Path.{_≡_};
+ghost use Rattle.records.specs.Limits.{aboveLine};
 ghost use Rattle.records.specs.Refusals.{numberOf};
 ghost use Rattle.records.specs.Run.{readNumber, verdictNumber, weighed};
 
@@ -26,7 +27,7 @@ pub const INPUT: usize = 32_768;
 // The body's length, by kind.
 pub const BODIES: [usize; 6] = [0, 5, 18, 1, 5, 2];
 
-// Why a call turns something away. `number` gives 01's number.
+// Why a call turns something away. `number` gives its number in 01 or 02.
 pub enum Refusal {
     TooLong,
     KindNotTaken,
@@ -43,6 +44,7 @@ pub enum Refusal {
     TooManyPackets,
     BadTable,
     ShortSlice,
+    AboveLine,
 }
 
 // The calls that read records take different kinds.
@@ -94,7 +96,7 @@ pub enum End {
     Refused { refusal: Refusal, place: usize },
 }
 
-// 01's number of a refusal.
+// The number of a refusal.
 pub fn number(r: Refusal) -> u64
     ensures { λ n. ⌜ n ≡ numberOf r ⌝ }
 {
@@ -114,7 +116,15 @@ pub fn number(r: Refusal) -> u64
         Refusal::TooManyPackets => 13,
         Refusal::BadTable => 14,
         Refusal::ShortSlice => 15,
+        Refusal::AboveLine => 16,
     }
+}
+
+// Whether a maximum is above the line (02, §1).
+pub fn above_line(access: u64, maximum: u64) -> bool
+    ensures { λ r. ⌜ r ≡ aboveLine access maximum ⌝ }
+{
+    access < maximum
 }
 
 // A record that was read, unless the verdict on it is a refusal.

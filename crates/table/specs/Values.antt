@@ -62,6 +62,7 @@ pub record SourceWithin (z : Source) : Type 0 where
   pub joined : 0 < z .access
   pub access : z .access ≤ maxRate
   pub maximum : z .maximum ≤ maxRate
+  pub line : z .maximum ≤ z .access  -- 02, §1
   pub rate : Within maxRate (z .rate)
   pub told : ToldWithin (z .told)
 

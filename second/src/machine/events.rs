@@ -1,10 +1,10 @@
-//! One record's event on the table: refusals 7 to 13 in number order, and only then the change. The
-//! parts that a step changes are worked out as copies and put back together, so that a refused
-//! record leaves the table as it was.
+//! One record's event on the table: refusals 7 to 13 in number order, with 16 where 02, §1 puts it,
+//! and only then the change. The parts that a step changes are worked out as copies and put back
+//! together, so that a refused record leaves the table as it was.
 
 use super::parts::{link_of, message_of, packet_of, put_link, source_numbers, source_of};
 use super::table::{Link, Packet, Source, Table, ACTIVE, LEFT, NOT_IN_F, YES};
-use crate::records::{Record, Refusal, PACKETS};
+use crate::records::{within_access, Record, Refusal, PACKETS};
 use crate::tasks::source::Source as SourceTask;
 use crate::tasks::{destination, Message, Sent, Way};
 
@@ -38,7 +38,7 @@ fn declare(table: &mut Table, number: usize, capacity: u64) -> Result<(), Refusa
     Ok(())
 }
 
-// 001, Figure 3, lines 3 to 6.
+// 001, Figure 3, lines 3 to 6. Refusal 16 is tried directly after 7 (02, §1).
 fn join(
     table: &mut Table,
     session: usize,
@@ -48,6 +48,7 @@ fn join(
     if table.sources[session].is_active() {
         return Err(Refusal::AlreadyThere);
     }
+    within_access(access, maximum)?;
     if path.iter().any(|&on| table.links[on].declared != YES) {
         return Err(Refusal::LinkUndeclared);
     }
@@ -75,12 +76,14 @@ fn leave(table: &mut Table, session: usize) -> Result<(), Refusal> {
     Ok(())
 }
 
-// 001, Figure 3, lines 11 to 18.
+// 001, Figure 3, lines 11 to 18. Refusal 16 is tried directly after 9, against the access rate with
+// which the session joined (02, §1).
 fn change(table: &mut Table, session: usize, maximum: u64) -> Result<(), Refusal> {
     let source = table.sources[session];
     if !source.is_active() {
         return Err(Refusal::NotActive);
     }
+    within_access(source.access, maximum)?;
     let mut task = source_of(&source);
     let sent = task.change(maximum);
     let sent = sent.map(|message| from_source(session, message));

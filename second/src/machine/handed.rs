@@ -1,6 +1,6 @@
 //! Refusal 14: whether a table handed in is sound (01, "What is turned away", 14). The clauses are
 //! tested in the order of the sentence, each over the whole table, so that a later one may rely on
-//! the ones before it.
+//! the ones before it; the clause that 02, §1 adds comes after them.
 
 use super::parts::link_of;
 use super::table::{
@@ -8,9 +8,11 @@ use super::table::{
     RESPONSE, SET_BOTTLENECK, TAU_BOTTLENECK, UP, UPDATE, WAITING_RESPONSE, YES,
 };
 use crate::fraction::{common_divisor, Fraction};
-use crate::records::{DENOMINATOR_LIMIT, LINKS, OWN, PACKETS, PATH_LINKS, RATE_LIMIT, SESSIONS};
+use crate::records::{
+    is_above_access, DENOMINATOR_LIMIT, LINKS, OWN, PACKETS, PATH_LINKS, RATE_LIMIT, SESSIONS,
+};
 
-/// The clause of 14's sentence that a table fails first.
+/// The clause of 14's sentence, or of 02's addition to it, that a table fails first.
 #[derive(Clone, Copy, Debug, PartialEq, Eq)]
 pub enum Fault {
     /// A field outside its range, the number of packets included.
@@ -35,6 +37,8 @@ pub enum Fault {
     SumPastCapacity,
     /// A link whose sums or B meet 12.
     SumsTooFine,
+    /// A nonzero maximum larger than its session's access rate (02, §1).
+    MaximumAboveAccess,
 }
 
 /// Whether the table is one that 14 lets pass, or the clause that it fails.
@@ -58,7 +62,11 @@ pub fn passes_14(table: &Table) -> Result<(), Fault> {
             return Err(fault);
         }
     }
-    (0..LINKS).try_for_each(|link| sums_fit(table, link))
+    (0..LINKS).try_for_each(|link| sums_fit(table, link))?;
+    if !maxima_within_access(table) {
+        return Err(Fault::MaximumAboveAccess);
+    }
+    Ok(())
 }
 
 // A field outside its range.
@@ -217,8 +225,8 @@ fn leave_to_reach(table: &Table, link: usize, session: usize) -> bool {
         .any(|packet| packet.kind == LEAVE && packet.session == session as u64 && packet.hop <= hop)
 }
 
-// The last two clauses. A sum past C is told only where the partial sums themselves pass, since
-// beyond that limit they have no bound; both are 14.
+// The last two clauses of the sentence. A sum past C is told only where the partial sums themselves
+// pass, since beyond that limit they have no bound; both are 14.
 fn sums_fit(table: &Table, number: usize) -> Result<(), Fault> {
     let link = link_of(table, number);
     let sum = link.sum_of_f().map_err(|_| Fault::SumsTooFine)?;
@@ -227,4 +235,10 @@ fn sums_fit(table: &Table, number: usize) -> Result<(), Fault> {
     }
     link.bottleneck_rate().map_err(|_| Fault::SumsTooFine)?;
     Ok(())
+}
+
+// 02, §1: of every session that has joined, active or left. Of one that never joined there is no
+// maximum to look at.
+fn maxima_within_access(table: &Table) -> bool {
+    joined_sources(table).all(|source| !is_above_access(source.access, source.maximum))
 }

@@ -95,7 +95,7 @@ pub struct Source {
     pub standing: u64,
     /// The access rate, 1 to 1,000,000.
     pub access: u64,
-    /// The present maximum, 0 for none, to 1,000,000.
+    /// The present maximum, 0 for none, up to the access rate (02, §1).
     pub maximum: u64,
     /// How many links the path has, 1 to 8.
     pub length: u64,

@@ -68,7 +68,7 @@ fn damaged_tables() {
         let mut world = world(Random::new(4_000 + seed), 3, 4);
         let mut machine = random_run(&mut world, 5, &mut Seen::default());
         for _ in 0..25 {
-            let record = world.event(&machine.table.packets);
+            let record = world.event(&machine.table);
             check_record(&mut machine, &record, &mut Seen::default());
         }
         let mut table = machine.table;
@@ -101,7 +101,7 @@ fn check_refused_14(mut table: Table) {
 
 fn check_ends(mut table: Table, world: &mut World) {
     for _ in 0..60 {
-        let record = world.event(&table.packets);
+        let record = world.event(&table);
         let before = table.clone();
         let ran = run(&mut table, &record);
         if ran.taken == 0 {

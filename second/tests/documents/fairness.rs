@@ -137,15 +137,20 @@ fn random_network(random: &mut Random, most_links: usize, most_sessions: usize) 
     let capacities = links.iter().map(|&on| (on, random_limit(random))).collect();
     let mut numbers = all[..32].to_vec();
     let sessions = (0..random.under(most_sessions + 1))
-        .map(|_| Session {
-            number: numbers.swap_remove(random.under(numbers.len())),
-            access: random_limit(random),
-            maximum: if random.chance(50) {
-                0
-            } else {
-                random_limit(random)
-            },
-            path: random.path(&links),
+        .map(|_| {
+            let number = numbers.swap_remove(random.under(numbers.len()));
+            let access = random_limit(random);
+            let maximum = match random.chance(50) {
+                true => 0,
+                // Not above the access rate (02, §1).
+                false => random_limit(random).min(access),
+            };
+            Session {
+                number,
+                access,
+                maximum,
+                path: random.path(&links),
+            }
         })
         .collect();
     Network {

@@ -1,6 +1,7 @@
 //! Tests from the documents: expected values are document 01's, or worked out by hand beside each
 //! test; none is taken from the program's own output.
 
+mod above;
 mod common;
 mod damage;
 mod examples;

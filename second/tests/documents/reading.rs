@@ -22,16 +22,17 @@ fn numbers_of_the_refusals() {
     assert_eq!(Refusal::PathDamaged.number(), 6);
     assert_eq!(Refusal::TooFine.number(), 12);
     assert_eq!(Refusal::SliceTooShort.number(), 15);
+    assert_eq!(Refusal::MaximumAboveAccess.number(), 16);
 }
 
 #[test]
 fn a_session_record_read() {
-    let bytes = session(31, 1, 1_000_000, &[63, 0]);
+    let bytes = session(31, 1_000_000, 1, &[63, 0]);
     assert_eq!(bytes.len(), 19);
     let record = Record::Session {
         session: 31,
-        access: 1,
-        maximum: 1_000_000,
+        access: 1_000_000,
+        maximum: 1,
         path: vec![63, 0],
     };
     assert_eq!(read(&bytes, 0, &Kind::MACHINE), Ok((record, 19)));

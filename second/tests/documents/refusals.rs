@@ -42,7 +42,7 @@ fn four_numbers_too_high() {
 
 #[test]
 fn five_rates_outside_their_range() {
-    let mut machine = taken(&[link(0, 10), plain_session(0, &[0])]);
+    let mut machine = taken(&[link(0, 10), session(0, 1_000_000, 0, &[0])]);
     machine.refuse(link(1, 0), 5);
     machine.refuse(session(1, 0, 0, &[0]), 5);
     machine.refuse(change(0, 1_000_001), 5);

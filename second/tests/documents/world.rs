@@ -1,9 +1,9 @@
 //! Random events over a few links and sessions: joins, changes, leaves, deliveries in and out of turn,
-//! and damaged bytes.
+//! maxima above the access rate, and damaged bytes.
 
 use crate::common::{change, deliver, leave, link, session, Random};
-use second::machine::table::Packet;
-use second::making::Turn;
+use second::machine::table::{Packet, Table};
+use second::making::{held_access, maximum_above, Turn};
 
 /// The links and sessions of a run, and what it has met.
 pub struct World {
@@ -44,17 +44,28 @@ impl World {
         1 + self.random.under(self.largest_rate as usize) as u32
     }
 
-    fn maximum(&mut self) -> u32 {
+    // None, or one of at most the access rate.
+    fn maximum(&mut self, access: u32) -> u32 {
         match self.random.chance(40) {
             true => 0,
-            false => self.rate(),
+            false => self.rate().min(access),
         }
     }
 
+    // 02, §1: this is refused.
+    fn above(&mut self, access: u32) -> u32 {
+        maximum_above(access, |count| self.random.under(count))
+    }
+
     fn join(&mut self) -> Vec<u8> {
+        self.join_with(World::maximum)
+    }
+
+    fn join_with(&mut self, maximum: fn(&mut World, u32) -> u32) -> Vec<u8> {
         let number = self.random.one_of(&self.sessions);
         let path = self.random.path(&self.links);
-        session(number, self.rate(), self.maximum(), &path)
+        let access = self.rate();
+        session(number, access, maximum(self, access), &path)
     }
 
     // A new link may be declared at any time; a link twice is refused.
@@ -63,9 +74,13 @@ impl World {
         link(number, self.rate())
     }
 
-    fn change(&mut self) -> Vec<u8> {
+    fn change(&mut self, table: &Table) -> Vec<u8> {
+        self.change_to(World::maximum, table)
+    }
+
+    fn change_to(&mut self, maximum: fn(&mut World, u32) -> u32, table: &Table) -> Vec<u8> {
         let number = self.random.one_of(&self.sessions);
-        change(number, self.maximum())
+        change(number, maximum(self, held_access(table, number)))
     }
 
     // A position that is in turn, if there is a packet.
@@ -76,11 +91,11 @@ impl World {
     }
 
     // Any record with a few bytes overwritten, cut off, or followed by others.
-    fn damaged(&mut self, packets: &[Packet]) -> Vec<u8> {
+    fn damaged(&mut self, table: &Table) -> Vec<u8> {
         let mut bytes = match self.random.under(3) {
             0 => self.join(),
-            1 => self.change(),
-            _ => self.delivery(packets).unwrap_or_default(),
+            1 => self.change(table),
+            _ => self.delivery(&table.packets).unwrap_or_default(),
         };
         for _ in 0..self.random.under(3) {
             if !bytes.is_empty() {
@@ -94,14 +109,17 @@ impl World {
         bytes
     }
 
-    pub fn event(&mut self, packets: &[Packet]) -> Vec<u8> {
+    pub fn event(&mut self, table: &Table) -> Vec<u8> {
+        let packets = &table.packets;
         match self.random.under(100) {
-            0..=11 => self.join(),
-            12..=19 => self.change(),
+            0..=10 => self.join(),
+            11 => self.join_with(World::above),
+            12..=18 => self.change(table),
+            19 => self.change_to(World::above, table),
             20..=25 => leave(self.random.one_of(&self.sessions)),
             26 => self.declaration(),
             27..=29 => deliver(self.random.under(packets.len() + 2)),
-            30..=33 => self.damaged(packets),
+            30..=33 => self.damaged(table),
             _ => self.delivery(packets).unwrap_or_else(|| self.join()),
         }
     }

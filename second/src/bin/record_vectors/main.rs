@@ -1,6 +1,7 @@
 //! Writes the recorded inputs of `crates/vectors/stdin` to standard output, framed as `vectors` reads
-//! them: the examples of document 01, every refusal that a run from the empty table can meet, and
-//! random inputs, valid and damaged. The seeds are fixed, so every run writes the same bytes.
+//! them: the examples of document 01, every refusal of documents 01 and 02 that a run from the empty
+//! table can meet, and random inputs, valid and damaged. The seeds are fixed, so every run writes the
+//! same bytes.
 
 use std::io::{self, Write};
 
@@ -98,8 +99,8 @@ fn joined_again() -> Vec<Input> {
 }
 
 // The refusals in the last lines of the texts: of the calculation's, and of the machine's.
-fn refusals_met(inputs: &[Input]) -> [[bool; 16]; 2] {
-    let mut met = [[false; 16]; 2];
+fn refusals_met(inputs: &[Input]) -> [[bool; 17]; 2] {
+    let mut met = [[false; 17]; 2];
     for input in inputs {
         let (sort, text) = match input {
             Input::Calculation(records) => (0, shares(records)),
@@ -122,6 +123,7 @@ fn main() -> io::Result<()> {
         refused::by_both(),
         refused::by_one(),
         refused::at_the_limits(),
+        refused::above_access(),
         random::calculations(),
         random::runs(),
         refused::too_long(),
@@ -132,6 +134,7 @@ fn main() -> io::Result<()> {
     let [calculation, machine] = refusals_met(&inputs);
     assert!(calculation[1..=8].iter().all(|&met| met), "refusals 1 to 8");
     assert!(machine[1..=13].iter().all(|&met| met), "refusals 1 to 13");
+    assert!(calculation[16] && machine[16], "refusal 16");
     let bytes: Vec<u8> = inputs.iter().flat_map(framed).collect();
     io::stdout().write_all(&bytes)
 }

@@ -5,8 +5,10 @@ use crate::common::{deliver, link, session, Machine, Random};
 use crate::world::{world, World};
 use crate::Input;
 use second::machine::run;
+use second::making::maximum_above;
 
-// Links and then sessions over them; of every four inputs about one has a damaged byte.
+// Links and then sessions over them; of every four inputs about one has a damaged byte, and of every
+// ten one a maximum above its session's access rate (02, §1).
 fn declarations(random: &mut Random, links: usize, sessions: u8) -> Input {
     let mut numbers: Vec<u8> = (0..64).collect();
     let on: Vec<u8> = (0..links)
@@ -18,9 +20,18 @@ fn declarations(random: &mut Random, links: usize, sessions: u8) -> Input {
     for &number in &on {
         bytes.extend(link(number, rate(random)));
     }
+    let above = random
+        .chance(10)
+        .then(|| random.under(usize::from(sessions)));
     for number in 0..sessions {
         let access = rate(random);
-        let maximum = if random.chance(60) { 0 } else { rate(random) };
+        let maximum = if above == Some(usize::from(number)) {
+            maximum_above(access, |count| random.under(count))
+        } else if random.chance(60) {
+            0
+        } else {
+            rate(random).min(access)
+        };
         bytes.extend(session(number, access, maximum, &random.path(&on)));
     }
     if random.chance(25) {
@@ -69,7 +80,7 @@ fn run_of(world: &mut World, events: usize, end: End) -> Input {
         machine.take(link(number, world.rate()));
     }
     for _ in 0..events {
-        let event = world.event(&machine.table.packets);
+        let event = world.event(&machine.table);
         offer(&mut machine, &event);
     }
     match end {
@@ -88,7 +99,7 @@ fn deliver_all(world: &mut World, machine: &mut Machine) {
 
 fn meet_a_refusal(world: &mut World, machine: &mut Machine) {
     loop {
-        let event = world.event(&machine.table.packets);
+        let event = world.event(&machine.table);
         if let Some(left) = offer(machine, &event) {
             machine.bytes.extend(left);
             machine.bytes.extend(deliver(0));
@@ -100,19 +111,19 @@ fn meet_a_refusal(world: &mut World, machine: &mut Machine) {
 // Seeds of runs that tell a rule of Figures 2 to 4 from one that is nearly the same, two for each.
 const TELLING: [[usize; 2]; 7] = [
     // Figure 2, line 5: a member of F with exactly B returns to R.
-    [1445, 2972],
+    [1352, 2972],
     // Lines 6 to 8: only the highest of F return, and B is worked out anew.
-    [2886, 2115],
+    [3032, 2115],
     // Lines 15 and 35: where the packet's rate equals B, it keeps the name that it has.
     [7290, 5189],
     // Lines 42 and 43: a Bottleneck goes on only where its session is in R.
     [2340, 2700],
     // Figure 3, lines 11 to 18: a change forgets that a rate was assigned.
-    [3344, 3570],
+    [3344, 8533],
     // Lines 31 and 42: the packet says whether the rate is D.
-    [7496, 5841],
+    [7496, 2940],
     // Figure 4, lines 9 and 10: an Update where no link was a bottleneck.
-    [1676, 10_955],
+    [1080, 10_955],
 ];
 
 /// Runs of a few links and sessions, and runs of up to 10 links and 32 sessions.

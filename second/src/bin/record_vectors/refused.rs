@@ -1,4 +1,5 @@
-//! Inputs that are refused, by refusals 1 to 13 of document 01, and inputs that go up to a limit.
+//! Inputs that are refused, by refusals 1 to 13 of document 01 and 16 of document 02, and inputs that go
+//! up to a limit.
 
 use crate::common::{
     at_rest, change, deliver, leave, link, plain_session, session, taken, Machine,
@@ -118,6 +119,60 @@ pub fn at_the_limits() -> Vec<Input> {
         [full, deliver(0), leave(9)].concat(),
     ];
     runs.map(Input::Run).into_iter().collect()
+}
+
+/// Refusal 16 (02, §1) alone and beside the others, each refused by the first, and maxima up to the
+/// access rate.
+pub fn above_access() -> Vec<Input> {
+    let session_records = [
+        // Equal to the access rate, and none.
+        session(1, 7, 7, &[0]),
+        session(1, 7, 0, &[0]),
+        // 16: one above, and with a zero too many.
+        session(1, 7, 8, &[0]),
+        session(1, 100, 1_000, &[0]),
+        session(1, 1, 1_000_000, &[1]),
+        // 5, 6 and 7 before 16, and 16 before 8.
+        session(1, 7, 1_000_001, &[0]),
+        session(1, 0, 8, &[0]),
+        session(1, 7, 8, &[0, 0]),
+        session(0, 7, 8, &[0]),
+        session(1, 7, 8, &[0, 5]),
+    ];
+    let changes = [
+        change(0, 100),
+        change(0, 0),
+        // 16, and the change up to the access rate after it is not looked at.
+        change(0, 101),
+        [change(0, 1_000), change(0, 100)].concat(),
+        // 5 before 16, and 9 before 16: never joined, and left.
+        change(0, 1_000_001),
+        change(1, 101),
+        [leave(0), change(0, 101)].concat(),
+        // 16 before 10, and before 8 and 10.
+        [leave(0), session(0, 7, 8, &[0])].concat(),
+        [leave(0), session(0, 7, 8, &[5])].concat(),
+        // Held to the access rate of the join, not to the maximum before.
+        [
+            session(1, 7, 2, &[0]),
+            change(1, 1),
+            change(1, 7),
+            change(1, 8),
+        ]
+        .concat(),
+    ];
+    let after = |record: Vec<u8>| [before(), record].concat();
+    let full = full_list().bytes;
+    let with_full_list = [
+        // 16 before 13, and before 10 and 13.
+        [full.clone(), change(0, 101)].concat(),
+        [full, session(1, 7, 8, &[0])].concat(),
+    ];
+    let mut inputs: Vec<Input> = Vec::new();
+    inputs.extend(session_records.map(after).into_iter().flat_map(for_both));
+    inputs.extend(changes.map(after).map(Input::Run));
+    inputs.extend(with_full_list.map(Input::Run));
+    inputs
 }
 
 /// Refusal 1: one byte too many.
