@@ -20,8 +20,9 @@ extern "C" {
 /* What stands for "own" as a binding place. */
 #define UMBRACONGA_OWN 64
 
-/* The direct calculation. For every session that the records declare, its place in nums and dens gets the rate and its place in places the binding
- * link, or UMBRACONGA_OWN; other places keep what they had. Each slice needs 32 places at least.
+/* The direct calculation. For every session that the records declare, its place in nums and dens gets the rate and its place in places what binds it:
+ * UMBRACONGA_OWN where it has all that its access line and its maximum allow, else the first link of its path that is a bottleneck of it (fully used,
+ * and no session on it has more); other places keep what they had. Each slice needs 32 places at least.
  * report: 0 the refusal's number, or 0; 1 the place of the refused record's kind byte (0 for 1 and 15); 2 the word of declared links; 3 the word of
  * declared sessions; both are 0 after a refusal. */
 void umbraconga_calculate(const uint8_t *records, size_t records_len, uint64_t *nums, size_t nums_len, uint64_t *dens, size_t dens_len,

@@ -4,6 +4,7 @@ use second::calculation as other;
 use umbraconga::{calculate, calculate_into, Declared, Refused};
 
 use crate::difference::{same, Difference};
+use crate::places;
 use crate::random::Random;
 use crate::tally::Tally;
 
@@ -31,6 +32,9 @@ pub fn compare(
         owned_form(records, ours, &ours_after)?;
     }
     tally.calculation(records, ours.err().map_or(0, |(number, _)| number));
+    if second.is_ok() {
+        tally.places(places::met(records, &second_after));
+    }
     Ok(())
 }
 

@@ -11,6 +11,7 @@
 #![warn(missing_docs)]
 
 pub mod above;
+pub mod bottleneck;
 pub mod built;
 pub mod calculation;
 pub mod crowded;
@@ -24,6 +25,7 @@ pub mod nearly;
 pub mod networks;
 pub mod odd;
 pub mod pair;
+pub mod places;
 pub mod purpose;
 pub mod random;
 pub mod recorded;

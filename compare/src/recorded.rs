@@ -1,4 +1,4 @@
-//! Recorded inputs: the examples of document 01 in `examples/` and the further ones in
+//! Recorded inputs: the examples of documents 01 and 02 in `examples/` and the further ones in
 //! `compare/vectors/`. Beside each input stands the text that the programs print for it, so that the
 //! two sides are also held to what both said when it was recorded.
 

@@ -7,7 +7,8 @@ use crate::difference::Difference;
 use crate::random::Random;
 use crate::tally::Tally;
 use crate::{
-    above, built, crowded, damage, faults, nearly, networks, odd, purpose, recorded, runs, slices,
+    above, bottleneck, built, crowded, damage, faults, nearly, networks, odd, purpose, recorded,
+    runs, slices,
 };
 
 /// One sort: its name, how many cases it has, and what one case does.
@@ -28,7 +29,7 @@ const fn sort(
 }
 
 /// The cases that are the same in every run of the program.
-pub const FIXED: [Sort; 9] = [
+pub const FIXED: [Sort; 10] = [
     sort("calculations, recorded", 1, recorded::calculations),
     sort(
         "calculations, slices of every length",
@@ -39,6 +40,11 @@ pub const FIXED: [Sort; 9] = [
         "calculations, 16 on purpose",
         1,
         above::calculations_on_purpose,
+    ),
+    sort(
+        "calculations, binding places on purpose",
+        1,
+        bottleneck::on_purpose,
     ),
     sort("runs, recorded", 1, recorded::runs),
     sort(
@@ -61,7 +67,7 @@ pub const FIXED: [Sort; 9] = [
 ];
 
 /// The cases that go by a seed.
-pub const RANDOM: [Sort; 15] = [
+pub const RANDOM: [Sort; 16] = [
     sort("calculations, accepted", 35_000, networks::valid),
     sort("calculations, damaged", 35_000, networks::damaged),
     sort("calculations, cut off", 20_000, networks::cut),
@@ -75,6 +81,11 @@ pub const RANDOM: [Sort; 15] = [
         "calculations, a maximum above an access rate",
         10_000,
         above::networks,
+    ),
+    sort(
+        "calculations, narrow links and fully used ones",
+        10_000,
+        bottleneck::networks,
     ),
     sort(
         "calculations, slices of random lengths",

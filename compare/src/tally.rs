@@ -1,4 +1,4 @@
-//! How much was compared, and which refusals and clauses of 14 were met.
+//! How much was compared, and which refusals, clauses of 14 and cases of the binding place were met.
 
 use std::collections::BTreeMap;
 use std::fmt;
@@ -6,6 +6,8 @@ use std::fmt;
 use second::machine::Fault;
 
 use second::making::record_bytes;
+
+use crate::places::{Met, CASES};
 
 /// The clauses of refusal 14 in the order of its sentence, and the one that 02, §1 adds.
 const CLAUSES: [Fault; 12] = [
@@ -53,6 +55,8 @@ pub struct Tally {
     /// How often the machine met 16 in each record that has a maximum.
     above: [u64; WITH_MAXIMUM.len()],
     clauses: [u64; CLAUSES.len()],
+    /// How many sessions of accepted calculations met each case of the binding place (02, §2).
+    places: Met,
     // The sort under which calls are counted now.
     sort: &'static str,
 }
@@ -68,6 +72,11 @@ impl Tally {
         self.empty += u64::from(records.is_empty());
         *self.calls.entry(self.sort).or_default() += 1;
         self.by_calculation[refusal as usize] += 1;
+    }
+
+    /// The sessions of an accepted calculation that was compared met these cases of the binding place.
+    pub fn places(&mut self, met: Met) {
+        add_each(&mut self.places, &met);
     }
 
     /// A run of these records was compared, and its table unless it was turned away; 0 where it was
@@ -115,6 +124,7 @@ impl Tally {
         add_each(&mut self.by_machine, &other.by_machine);
         add_each(&mut self.above, &other.above);
         add_each(&mut self.clauses, &other.clauses);
+        add_each(&mut self.places, &other.places);
     }
 
     /// All calls compared.
@@ -122,8 +132,9 @@ impl Tally {
         self.calls.values().sum()
     }
 
-    /// The refusals and clauses that should have been met and were not: the calculation can meet 1
-    /// to 8, 15 and 16, the machine 1 to 14 and 16, the latter in a session record and in a change.
+    /// The refusals, clauses and cases of the binding place that should have been met and were not: the
+    /// calculation can meet 1 to 8, 15 and 16, the machine 1 to 14 and 16, the latter in a session record
+    /// and in a change.
     pub fn not_met(&self) -> Vec<String> {
         let by_calculation = (1..=8)
             .chain([15, 16])
@@ -143,10 +154,16 @@ impl Tally {
             .zip(&self.clauses)
             .filter(|(_, &count)| count == 0)
             .map(|(clause, _)| format!("clause {clause:?} of 14"));
+        let places = CASES
+            .iter()
+            .zip(&self.places)
+            .filter(|(_, &count)| count == 0)
+            .map(|(case, _)| case.to_string());
         by_calculation
             .chain(by_machine)
             .chain(above)
             .chain(clauses)
+            .chain(places)
             .collect()
     }
 }
@@ -193,6 +210,10 @@ impl fmt::Display for Tally {
         writeln!(f, "clauses of 14")?;
         for (clause, count) in CLAUSES.iter().zip(&self.clauses) {
             writeln!(f, "{count:>9} {clause:?}")?;
+        }
+        writeln!(f, "binding places, by sessions of accepted calculations")?;
+        for (case, count) in CASES.iter().zip(&self.places) {
+            writeln!(f, "{count:>9} {case}")?;
         }
         Ok(())
     }

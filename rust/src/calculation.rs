@@ -17,9 +17,10 @@ pub struct Declared {
 /// What keeps a session from a higher rate.
 #[derive(Clone, Copy, Debug, PartialEq, Eq)]
 pub enum Place {
-    /// Its own access line or its maximum.
+    /// Its own access line or its maximum. This comes first, also where a link is a bottleneck too.
     Own,
-    /// The first link on its path that is fully used.
+    /// The first link of its path that is a bottleneck of it: fully used, and no session on it has
+    /// more.
     Link(u8),
 }
 

@@ -34,6 +34,7 @@ fn the_examples() {
         "p12b",
         "p13",
         "refused_16",
+        "binding",
     ];
     for name in names {
         let (records, text) = example(name);

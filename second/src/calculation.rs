@@ -1,6 +1,6 @@
 //! The direct calculation (01, "The direct calculation"; 001, Figure 1): every session's max-min
-//! fair rate, and the place that binds it. A session's own limit D is one more link that only
-//! this session crosses.
+//! fair rate, and the place that binds it (02, §2; 001, Definition 1). A session's own limit D is
+//! one more link that only this session crosses.
 
 use std::collections::{BTreeMap, BTreeSet};
 
@@ -47,9 +47,9 @@ struct Crossed {
 type Rates = BTreeMap<usize, Fraction>;
 
 /// Calculates the rates of the sessions that `input` declares. Writes numerator, denominator and
-/// binding place (64: own, else the link) of each declared session at its number, and no other
-/// place; a refusal writes nothing. The order of the tests is 15, 1, then each record's 2 to 7,
-/// 16 and 8 (02, §1).
+/// binding place (64: own, else the link; 02, §2) of each declared session at its number, and no
+/// other place; a refusal writes nothing. The order of the tests is 15, 1, then each record's 2 to
+/// 7, 16 and 8 (02, §1).
 pub fn calculate(
     input: &[u8],
     nums: &mut [u64],
@@ -202,21 +202,30 @@ fn sum(rates: impl Iterator<Item = Fraction>) -> Fraction {
     rates.fold(Fraction::ZERO, Fraction::plus)
 }
 
-// "own" if the rate equals D, else the first link on the path whose capacity is fully used.
+// 02, §2: "own" if the rate equals D, else the first link of the path, in path order, that is a
+// bottleneck of the session.
 fn binding_place(network: &Network, rates: &Rates, session: &Session, rate: Fraction) -> u64 {
     if rate == Fraction::whole(session.own_limit) {
         return OWN;
     }
-    let full = |link: usize| {
-        let crossing = network
-            .sessions
-            .iter()
-            .filter(|(_, other)| other.path.contains(&link));
-        let used = sum(crossing.map(|(number, _)| rates[number]));
-        used == Fraction::whole(network.capacities[&link])
-    };
-    let first = session.path.iter().copied().find(|&link| full(link));
-    first.expect("a session below D has a full link on its path") as u64
+    let mut path = session.path.iter().copied();
+    let first = path.find(|&link| is_bottleneck(network, rates, link, rate));
+    first.expect("a session below D has a bottleneck on its path") as u64
+}
+
+// 001, Definition 1, of a link and the rate of a session on it: the link's capacity is fully used,
+// and no session on the link has more.
+fn is_bottleneck(network: &Network, rates: &Rates, link: usize, rate: Fraction) -> bool {
+    let rates_there: Vec<Fraction> = network
+        .sessions
+        .iter()
+        .filter(|(_, other)| other.path.contains(&link))
+        .map(|(number, _)| rates[number])
+        .collect();
+    let used = sum(rates_there.iter().copied());
+    let fully_used = used == Fraction::whole(network.capacities[&link]);
+    let nobody_has_more = rates_there.iter().all(|&other| other <= rate);
+    fully_used && nobody_has_more
 }
 
 fn declared(network: &Network) -> Declared {

@@ -1,102 +1,143 @@
--- Every declared session has a binding place: its own limit, or a link of its path that is fully used.
+-- 02, §2: every session has a binding place, and only one: what `bindingOf` gives is what binds the session, and no other place does.
 -- Assumes nothing.
 use mathlib.Core.Bool.{Bool, cond, false, true}
 use mathlib.Core.Logic.{_⊎_, inl, inr}
 use mathlib.Core.Path.{_≡_, refl, ap, subst, sym, _∙_}
-use Prim.Native.Nat.{ℕ, zero, suc, _+_, _*_, _<_}
+use Prim.Native.Nat.{ℕ, _+_, _*_, _<_, _≤_}
 use native.Mathlib.Omega.{arith}
-use borrow.Author.Tests.{eq-eqb, eqb-true, lt-ltb, ltb-true}
-use lib.Dec.{T, eqb, eqb→eq, ltb}
+use borrow.Author.Tests.{eq-eqb, eqb-true}
+use lib.Dec.{T, eqb, eqb→eq}
 use lib.ListN.{getD}
-use Rattle.fractions.proofs.Cases.{and-both}
-use Rattle.sessions.specs.Set.{has}
-use Rattle.fairness.specs.Figure1.{State, figure1, rate, values}
-use Rattle.fairness.specs.MaxMin.{Active, MaxMinFair, Restricted, used}
+use Rattle.fractions.proofs.Cases.{order}
+use Rattle.fairness.specs.Figure1.{figure1, rate}
+use Rattle.fairness.specs.MaxMin.{Active, Bottleneck, MaxMinFair, Restricted}
 use Rattle.fairness.proofs.Anys.{any-found}
+use Rattle.fairness.proofs.Bottlenecks.{bottleneck-or-not}
+use Rattle.fairness.proofs.EverySessionIsRestricted.{max-min-restricted}
 use Rattle.fairness.proofs.Figure1IsFair.{figure1-fair}
 use Rattle.fairness.proofs.Running.{values-at}
-use Rattle.fairness.proofs.EverySessionIsRestricted.{max-min-restricted}
+use Rattle.fairness.proofs.SameRates.{bottleneck-same, own-same}
+use Rattle.fairness.proofs.Uniqueness.{max-min-unique}
+use Rattle.records.proofs.Somes.{clash}
 use Rattle.declarations.specs.declared.Declared.{Declared}
 use Rattle.filling.specs.Lines.{problemOf}
+use Rattle.search.specs.Crossing.{byteAt}
+use Rattle.calculation.specs.Binding.{BindingLink, Binds, bindingOf, firstOf, isBottleneck, own, pathBytes, says}
 use Rattle.calculation.specs.Calculating.{resultsOf}
-use Rattle.calculation.proofs.SameResults.{active}
-use Rattle.calculation.specs.Binding.{bindingOf, firstOf, fullyUsed, own, pathBytes}
+use Rattle.calculation.proofs.FirstOf.{First, first-found}
 
--- where one of n values passes, the first of them that does is one of them, and passes
-module _ (test : ℕ → Bool) (f : ℕ → ℕ) where
-  first-found : (n i h : ℕ) → h < n → test (f (i + h)) ≡ true
-      → (j : ℕ) × (j < n) × (firstOf test (values i n f) ≡ f (i + j)) × (test (f (i + j)) ≡ true)
-  unfolding firstOf values
-  first-found zero i h l e = absurd (omega arith)
-  first-found (suc n) i zero l e =
-      let s : i + 0 ≡ i = omega arith in
-      let g : test (f i) ≡ true = ap (λ (k : ℕ). test (f k)) (sym s) ∙ e in
-      (0, omega arith, rw (g, s), e)
-  first-found (suc n) i (suc h) l e = go (test (f i)) refl (first-found n (suc i) h (omega arith) (ap (λ (k : ℕ). test (f k)) {x = suc i + h} {y = i + suc h} (omega arith) ∙ e))
+-- WHAT IS DECIDED IS SO -----------------------------------------------------------------------------------------------
+
+pub says-so : {A : Type 0} (d : Dec A) → says d ≡ true → A
+unfolding says
+says-so (yes a) q = a
+says-so (no n) q = absurd (clash false q refl)
+
+pub so-says : {A : Type 0} (d : Dec A) → A → says d ≡ true
+unfolding says
+so-says (yes a) b = refl
+so-says (no n) b = absurd (n b)
+
+-- EVERY SESSION HAS A BINDING PLACE -----------------------------------------------------------------------------------
+
+on-path : (d : Declared) (e t : ℕ) → T (problemOf d .crosses e t) → (h : ℕ) × (h < 8) × (byteAt (d .path) t h ≡ e)
+unfolding problemOf
+on-path d e t c = let r = any-found 8 (λ h. eqb (byteAt (d .path) t h) e) c in (r .0, r .1, eqb→eq (byteAt (d .path) t (r .0)) e (r .2))
+
+module _ (d : Declared) (N : ℕ) (x : ℕ → ℕ) (t : ℕ) where
+  abbrev test : ℕ → Bool
+  test = isBottleneck d N x t
+
+  -- a bottleneck on the path: the first of them binds
+  first-binds : x t < N * problemOf d .D t → (e : ℕ) → Bottleneck (problemOf d) N x t e → BindingLink d N x t (firstOf test (pathBytes (d .path) t))
+  first-binds below e k = go (first-found test (byteAt (d .path) t) 8 0 (p .0) (p .1) hit)
     where
-      go : (t : Bool) → test (f i) ≡ t
-          → (j : ℕ) × (j < n) × (firstOf test (values (suc i) n f) ≡ f (suc i + j)) × (test (f (suc i + j)) ≡ true)
-          → (j : ℕ) × (j < suc n) × (cond t (f i) (firstOf test (values (suc i) n f)) ≡ f (i + j)) × (test (f (i + j)) ≡ true)
-      go true q r = let s : i ≡ i + 0 = omega arith in (0, omega arith, ap f s, ap (λ (k : ℕ). test (f k)) (sym s) ∙ q)
-      go false q r =
-          let s : suc i + r .0 ≡ i + suc (r .0) = omega arith in
-          (suc (r .0), omega (arith, r .1), r .2 ∙ ap f s, ap (λ (k : ℕ). test (f k)) (sym s) ∙ r .3)
+      p : (h : ℕ) × (h < 8) × (byteAt (d .path) t h ≡ e)
+      p = on-path d e t (k .crosses)
 
--- e is a link that is fully used and stands on the path of t
-pub record BindingLink (d : Declared) (N : ℕ) (x : ℕ → ℕ) (t e : ℕ) : Type 0 where
-  pub hop : ℕ
-  pub within : hop < 8
-  pub there : e ≡ getD (d .path) (t * 8 + hop) 0
-  pub is-link : e < 64
-  pub full : used (problemOf d) x e ≡ N * problemOf d .capacity e
+      hit : test (byteAt (d .path) t (0 + p .0)) ≡ true
+      hit = ap (λ (h : ℕ). test (byteAt (d .path) t h)) {x = 0 + p .0} {y = p .0} (omega arith) ∙ ap test (p .2) ∙ so-says (bottleneck-or-not (problemOf d) N x t e) k
 
-on-path : (d : Declared) (e t : ℕ) → T (problemOf d .crosses e t) → (h : ℕ) × (h < 8) × (getD (d .path) (t * 8 + h) 0 ≡ e)
-unfolding problemOf
-on-path d e t c = let r = any-found 8 (λ h. eqb (getD (d .path) (t * 8 + h) 0) e) c in (r .0, r .1, eqb→eq (getD (d .path) (t * 8 + r .0) 0) e (r .2))
+      go : First test (byteAt (d .path) t) 0 8 → BindingLink d N x t (firstOf test (pathBytes (d .path) t))
+      go f =
+          let z : 0 + f .at ≡ f .at = omega arith in
+          let there : firstOf test (pathBytes (d .path) t) ≡ byteAt (d .path) t (f .at) = f .is ∙ ap (byteAt (d .path) t) z in
+          record {
+            below = below;
+            hop = f .at;
+            within = f .within;
+            there = there;
+            bottleneck = says-so (bottleneck-or-not (problemOf d) N x t _) (ap test (f .is) ∙ f .passes);
+            first = λ h l b.
+                clash (test (byteAt (d .path) t h)) (so-says (bottleneck-or-not (problemOf d) N x t _) b)
+                (ap (λ (j : ℕ). test (byteAt (d .path) t j)) {x = h} {y = 0 + h} (omega arith) ∙ f .before h l);
+          }
 
-links-64 : (d : Declared) (e : ℕ) → e < problemOf d .links → e < 64
-unfolding problemOf
-links-64 d e h = h
-
-pub binding-found : (d : Declared) (N : ℕ) (x : ℕ → ℕ) → MaxMinFair (problemOf d) N x → (t : ℕ) → Active (problemOf d) t
-    → ((bindingOf d N x t ≡ own) × (x t ≡ N * problemOf d .D t)) ⊎ BindingLink d N x t (bindingOf d N x t)
+-- at max-min fair rates every active session is bound where `bindingOf` says
+pub binding-binds : (d : Declared) (N : ℕ) (x : ℕ → ℕ) → MaxMinFair (problemOf d) N x → (t : ℕ) → Active (problemOf d) t → Binds d N x t (bindingOf d N x t)
 unfolding bindingOf
-binding-found d N x f t a = go (eqb (x t) (N * problemOf d .D t)) refl (max-min-restricted (problemOf d) N x f t a)
+binding-binds d N x f t a = go (eqb (x t) (N * problemOf d .D t)) refl (max-min-restricted (problemOf d) N x f t a)
   where
-    list : ℕ → ℕ
-    list h = getD (d .path) (t * 8 + h) 0
-
-    link : (e : ℕ) → (h : ℕ) × (h < 8) × (list h ≡ e) → e < 64 → used (problemOf d) x e ≡ N * problemOf d .capacity e
-        → BindingLink d N x t (firstOf (fullyUsed (problemOf d) N x) (pathBytes (d .path) t))
-    link e p l q =
-        let z : 0 + p .0 ≡ p .0 = omega arith in
-        let both : fullyUsed (problemOf d) N x e ≡ true = rw (lt-ltb e 64 l, eq-eqb _ _ q) in
-        let hit : fullyUsed (problemOf d) N x (list (0 + p .0)) ≡ true = ap (λ (k : ℕ). fullyUsed (problemOf d) N x (list k)) z ∙ (ap (fullyUsed (problemOf d) N x) (p .2) ∙ both) in
-        let r = first-found (fullyUsed (problemOf d) N x) list 8 0 (p .0) (p .1) hit in
-        let s : 0 + r .0 ≡ r .0 = omega arith in
-        let e' = list (r .0) in
-        let g = and-both (ltb e' 64) _ (ap (λ (k : ℕ). fullyUsed (problemOf d) N x (list k)) (sym s) ∙ r .3) in
-        subst (BindingLink d N x t) (sym (r .2 ∙ ap list s))
-        (record { hop = r .0; within = r .1; there = refl; is-link = ltb-true e' 64 (g .0); full = eqb-true _ _ (g .1) })
-
     go : (b : Bool) → eqb (x t) (N * problemOf d .D t) ≡ b → Restricted (problemOf d) N x t
-        → ((cond b own (firstOf (fullyUsed (problemOf d) N x) (pathBytes (d .path) t)) ≡ own) × (x t ≡ N * problemOf d .D t))
-        ⊎ BindingLink d N x t (cond b own (firstOf (fullyUsed (problemOf d) N x) (pathBytes (d .path) t)))
+        → Binds d N x t (cond b own (firstOf (isBottleneck d N x t) (pathBytes (d .path) t)))
     go true q r = inl (refl, eqb-true _ _ q)
-    go false q (inl o) = absurd (let z : _≡_ {A = Bool} true false = sym (eq-eqb _ _ o) ∙ q in let y : _≡_ {A = ℕ} 0 1 = cc in omega arith)
-    go false q (inr k) = inr (link (k .0) (on-path d (k .0) t (k .1 .crosses)) (links-64 d (k .0) (k .1 .is-link)) (k .1 .full))
+    go false q (inl o) = absurd (clash _ (eq-eqb _ _ o) q)
+    go false q (inr k) =
+        let apart : x t ≡ N * problemOf d .D t → ⊥ = λ o. clash _ (eq-eqb _ _ o) q in
+        inr (first-binds d N x t (strict (x t) (N * problemOf d .D t) (f .feasible .own t a) apart) (k .0) (k .1))
+      where
+        strict : (m n : ℕ) → m ≤ n → (m ≡ n → ⊥) → m < n
+        strict m n h u = omega arith
 
--- so every place that is written for a declared session is its own limit or such a link
-pub place-found : (d : Declared) (t : ℕ) → t < 32 → has t (d .sessions) ≡ 1
-    → (getD (resultsOf d .places) t 0 ≡ own) ⊎ BindingLink d (figure1 (problemOf d) .den) (rate (figure1 (problemOf d))) t (getD (resultsOf d .places) t 0)
+-- AND ONLY ONE --------------------------------------------------------------------------------------------------------
+
+-- 64 stands exactly where the rate is D
+pub own-exactly : (d : Declared) (N : ℕ) (x : ℕ → ℕ) (t place : ℕ) → Binds d N x t place
+    → (place ≡ own → x t ≡ N * problemOf d .D t) × (x t ≡ N * problemOf d .D t → place ≡ own)
+unfolding problemOf
+own-exactly d N x t place (inl o) = (λ q. o .1, λ q. o .0)
+own-exactly d N x t place (inr k) = (λ q. absurd (omega (arith, k .bottleneck .is-link, q)), λ q. absurd (omega (arith, k .below, q)))
+
+module _ (d : Declared) (N : ℕ) (x : ℕ → ℕ) (M : ℕ) (y : ℕ → ℕ) (f : MaxMinFair (problemOf d) N x) (g : MaxMinFair (problemOf d) M y) (t : ℕ) (a : Active (problemOf d) t) where
+  -- two links that bind: neither comes before the other
+  links-same : (i j : ℕ) → BindingLink d N x t i → BindingLink d M y t j → i ≡ j
+  links-same i j k l = go (order (k .hop) (l .hop)) (order (l .hop) (k .hop))
+    where
+      not-before : l .hop < k .hop → ⊥
+      not-before h =
+          k .first (l .hop) h
+          (subst (Bottleneck (problemOf d) N x t) (l .there)
+          (bottleneck-same (problemOf d) M y N x (g .feasible .pos) (max-min-unique (problemOf d) M y N x g f) t a j (l .bottleneck)))
+
+      not-after : k .hop < l .hop → ⊥
+      not-after h =
+          l .first (k .hop) h
+          (subst (Bottleneck (problemOf d) M y t) (k .there)
+          (bottleneck-same (problemOf d) N x M y (f .feasible .pos) (max-min-unique (problemOf d) N x M y f g) t a i (k .bottleneck)))
+
+      go : (k .hop ≤ l .hop) ⊎ (l .hop < k .hop) → (l .hop ≤ k .hop) ⊎ (k .hop < l .hop) → i ≡ j
+      go (inl h) (inl o) = k .there ∙ ap (byteAt (d .path) t) {x = k .hop} {y = l .hop} (omega arith) ∙ sym (l .there)
+      go (inl h) (inr o) = absurd (not-after o)
+      go (inr h) o = absurd (not-before h)
+
+  -- what binds a session is settled by the declarations alone
+  pub binds-unique : (i j : ℕ) → Binds d N x t i → Binds d M y t j → i ≡ j
+  binds-unique i j (inl o) (inl q) = o .0 ∙ sym (q .0)
+  binds-unique i j (inl o) (inr l) =
+      absurd (omega (arith, l .below, own-same (problemOf d) N x M y (f .feasible .pos) (max-min-unique (problemOf d) N x M y f g) t a (o .1)))
+  binds-unique i j (inr k) (inl q) =
+      absurd (omega (arith, k .below, own-same (problemOf d) M y N x (g .feasible .pos) (max-min-unique (problemOf d) M y N x g f) t a (q .1)))
+  binds-unique i j (inr k) (inr l) = links-same i j k l
+
+  -- so two fair allocations have the same binding places
+  pub binding-same : bindingOf d N x t ≡ bindingOf d M y t
+  binding-same = binds-unique _ _ (binding-binds d N x f t a) (binding-binds d M y g t a)
+
+-- the places of the results bind, at whatever max-min fair rates
+pub results-bind : (d : Declared) (N : ℕ) (x : ℕ → ℕ) → MaxMinFair (problemOf d) N x → (t : ℕ) → t < 32 → Active (problemOf d) t
+    → Binds d N x t (getD (resultsOf d .places) t 0)
 unfolding resultsOf
-place-found d t h m =
+results-bind d N x f t h a =
     let z = figure1 (problemOf d) in
-    let e : bindingOf d (z .den) (rate z) t ≡ getD (resultsOf d .places) t 0 = sym (values-at 32 t (bindingOf d (z .den) (rate z)) 0 h) in
-    go z (getD (resultsOf d .places) t 0) e (binding-found d (z .den) (rate z) (figure1-fair (problemOf d)) t (active d t h m))
-  where
-    go : (z : State) (p : ℕ) → bindingOf d (z .den) (rate z) t ≡ p
-        → ((bindingOf d (z .den) (rate z) t ≡ own) × (rate z t ≡ z .den * problemOf d .D t)) ⊎ BindingLink d (z .den) (rate z) t (bindingOf d (z .den) (rate z) t)
-        → (p ≡ own) ⊎ BindingLink d (z .den) (rate z) t p
-    go z p e (inl q) = inl (sym e ∙ q .0)
-    go z p e (inr q) = inr (subst (BindingLink d (z .den) (rate z) t) e q)
+    subst (Binds d N x t) (binding-same d N x (z .den) (rate z) f (figure1-fair (problemOf d)) t a ∙ sym (values-at 32 t (bindingOf d (z .den) (rate z)) 0 h))
+    (binding-binds d N x f t a)

@@ -1,4 +1,4 @@
--- The P examples of 01 as rows of one table, under one claim, by computing the definitions.
+-- The P examples of 01, and that of 02, §2, as rows of one table, under one claim, by computing the definitions.
 -- Assumes nothing.
 use mathlib.Core.List.{List, [], _∷_, _++_}
 use mathlib.Core.Path.{_≡_, refl}
@@ -10,11 +10,12 @@ use Rattle.sessions.specs.Set.{cut, has, membersFrom, put, walk}
 use Rattle.fairness.specs.Figure1.{any, begin, chosen, counts, figure1, fixAt, leftAt, lefts, loadAt, net, oneRound, openAll, openAt, roundOn, rounds, smaller, smallest, values}
 use Rattle.fairness.specs.MaxMin.{used}
 use Rattle.fairness.specs.Sum.{sum}
+use Rattle.fairness.proofs.Bottlenecks.{all-below, bottleneck-or-not, by-test, none-has-more, where-passes}
 use Rattle.records.specs.Format.{all, be2, be4, bodyAt, bodyOf, changeAt, deliverAt, differ, isNew, leaveAt, linkAt, linksOk, pathOk, readAt, restOk, sessionAt, sizeAt}
 use Rattle.records.specs.Run.{runFrom}
 use Rattle.declarations.specs.Declaring.{copied, declarationsOf, declareOf, judgeOf, noneDeclared, ownLimitOf, pathDeclared}
 use Rattle.filling.specs.Lines.{problemOf}
-use Rattle.calculation.specs.Binding.{bindingOf, firstOf, own}
+use Rattle.calculation.specs.Binding.{bindingOf, firstOf, own, says}
 use Rattle.calculation.specs.Calculating.{Outcome, Said, saidOf, calculateOf, doneOf, resultsOf, written}
 
 -- a link record
@@ -113,13 +114,15 @@ examples =
     ∷ refused (1 ∷ 0 ∷ 0 ∷ 15 ∷ 66 ∷ 65 ∷ []) 5 0
     -- P13: link 0 declared twice: 7
     ∷ refused (link 0 10 ++ link 0 10) 7 6
+    -- 02, §2: links 0 of 10 and 1 of 4; session 0 over 0 then 1, session 1 over 0: 4 (link 1) and 6 (link 0)
+    ∷ accepted (link 0 10 ++ link 1 4 ++ session 0 100 0 (2 ∷ 0 ∷ 1 ∷ replicate 6 255) ++ session 1 100 0 over0) 3 3 (4 ∷ 6 ∷ []) (1 ∷ 1 ∷ []) (1 ∷ 0 ∷ []) 30
     ∷ []
 
 each : (Example → Shown) → List Example → List Shown
 each f [] = []
 each f (x ∷ xs) = f x ∷ each f xs
 
--- every example has the outcome that 01 gives
+-- every example has the outcome that its document gives
 examples-right : each (λ x. showing (calculateOf (x .input) nines nines nines)) examples ≡ each (λ x. x .outcome) examples
-unfolding examples each calculateOf doneOf resultsOf written declarationsOf declareOf judgeOf noneDeclared pathDeclared copied ownLimitOf all be2 be4 bodyAt bodyOf changeAt deliverAt differ isNew leaveAt linkAt linksOk pathOk readAt restOk sessionAt sizeAt runFrom problemOf bindingOf firstOf used sum figure1 begin net rounds oneRound roundOn fixAt lefts counts smallest smaller chosen any values openAll openAt leftAt loadAt lowestOf gcdOf gcdIn membersFrom walk has put cut
+unfolding examples each calculateOf doneOf resultsOf written declarationsOf declareOf judgeOf noneDeclared pathDeclared copied ownLimitOf all be2 be4 bodyAt bodyOf changeAt deliverAt differ isNew leaveAt linkAt linksOk pathOk readAt restOk sessionAt sizeAt runFrom problemOf bindingOf bottleneck-or-not none-has-more all-below where-passes by-test says firstOf used sum figure1 begin net rounds oneRound roundOn fixAt lefts counts smallest smaller chosen any values openAll openAt leftAt loadAt lowestOf gcdOf gcdIn membersFrom walk has put cut
 examples-right = refl

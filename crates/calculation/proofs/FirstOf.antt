@@ -1,17 +1,13 @@
--- The first of a list that passes a test: one byte of a path more, and tests that agree.
+-- The first of a list that passes a test: one byte of a path more, that it passes and none before it does, and tests that agree.
 -- Assumes nothing.
-use mathlib.Core.Bool.{Bool, _&&_, cond, false, true}
-use mathlib.Core.List.{List, [], _∷_}
-use mathlib.Core.Path.{_≡_, refl}
-use Prim.Native.Nat.{ℕ, suc, _+_, _-_, _<_}
+use mathlib.Core.Bool.{Bool, false, true}
+use mathlib.Core.List.{_∷_}
+use mathlib.Core.Path.{_≡_, refl, ap, subst, sym, _∙_}
+use Prim.Native.Nat.{ℕ, zero, suc, _+_, _-_, _<_}
 use native.Mathlib.Numerals.{add-one}
 use native.Mathlib.Omega.{arith}
-use borrow.Author.Tests.{eq-eqb, eqb-true, ltb-true}
-use lib.Dec.{eqb, ltb}
-use lib.ListN.{getD}
 use Rattle.fairness.specs.Figure1.{values}
-use Rattle.fractions.proofs.Cases.{same-test}
-use Rattle.calculation.specs.Binding.{firstOf}
+use Rattle.calculation.specs.Binding.{firstOf, own}
 
 -- the values that are left after h of eight, taken apart
 values-left : (f : ℕ → ℕ) (h : ℕ) → h < 8 → values h (8 - h) f ≡ f h ∷ values (h + 1) (8 - (h + 1)) f
@@ -32,32 +28,59 @@ module _ (test : ℕ → Bool) (f : ℕ → ℕ) where
   first-hit h k e = rw (values-left f h k, e)
 
   -- after eight there is none
-  pub first-none : (h : ℕ) → h ≡ 8 → firstOf test (values h (8 - h) f) ≡ 255
+  pub first-none : (h : ℕ) → h ≡ 8 → firstOf test (values h (8 - h) f) ≡ own
   unfolding firstOf values
   first-none h e = let z : 8 - h ≡ 0 = omega arith in rw z
 
--- tests that agree find the same
-pub first-cong : (f g : ℕ → Bool) (l : List ℕ) → ((e : ℕ) → f e ≡ g e) → firstOf f l ≡ firstOf g l
-unfolding firstOf
-first-cong f g [] h = refl
-first-cong f g (e ∷ l) h = rw (h e, first-cong f g l h)
+-- of the n values from i on, one that passes, before which none does, is the first
+pub record First (test : ℕ → Bool) (f : ℕ → ℕ) (i n : ℕ) : Type 0 where
+  pub at : ℕ
+  pub within : at < n
+  pub is : firstOf test (values i n f) ≡ f (i + at)
+  pub passes : test (f (i + at)) ≡ true
+  pub before : (h : ℕ) → h < at → test (f (i + h)) ≡ false
 
--- two tests of equality that hold together
-pub eqb-same : (a b c d : ℕ) → (a ≡ b → c ≡ d) → (c ≡ d → a ≡ b) → eqb a b ≡ eqb c d
-eqb-same a b c d f g = same-test (eqb a b) (eqb c d) (λ e. eq-eqb c d (f (eqb-true a b e))) (λ e. eq-eqb a b (g (eqb-true c d e)))
+-- where one of them passes there is a first
+module _ (test : ℕ → Bool) (f : ℕ → ℕ) where
+  here : (n i : ℕ) → test (f i) ≡ true → First test f i (suc n)
+  unfolding firstOf values
+  here n i q =
+      let s : i + 0 ≡ i = omega arith in
+      record { at = 0; within = omega arith; is = rw (q, s); passes = rw s q; before = λ h l. absurd (omega arith) }
 
--- and under a bound
-pub eqb-below : (e a b c d : ℕ) → (e < 64 → a ≡ b → c ≡ d) → (e < 64 → c ≡ d → a ≡ b) → (ltb e 64 && eqb a b) ≡ (ltb e 64 && eqb c d)
-eqb-below e a b c d f g = go (ltb e 64) refl
-  where
-    go : (t : Bool) → ltb e 64 ≡ t → (t && eqb a b) ≡ (t && eqb c d)
-    go true q = eqb-same a b c d (f (ltb-true e 64 q)) (g (ltb-true e 64 q))
-    go false q = refl
+  later : (n i : ℕ) → test (f i) ≡ false → First test f (suc i) n → First test f i (suc n)
+  unfolding firstOf values
+  later n i q r =
+      let s : suc i + r .at ≡ i + suc (r .at) = omega arith in
+      record {
+        at = suc (r .at);
+        within = omega (arith, r .within);
+        is = rw q (r .is ∙ ap f s);
+        passes = ap (λ (k : ℕ). test (f k)) (sym s) ∙ r .passes;
+        before = before;
+      }
+    where
+      before : (h : ℕ) → h < suc (r .at) → test (f (i + h)) ≡ false
+      before zero l = ap (λ (k : ℕ). test (f k)) {x = i + 0} {y = i} (omega arith) ∙ q
+      before (suc h) l = ap (λ (k : ℕ). test (f k)) {x = i + suc h} {y = suc i + h} (omega arith) ∙ r .before h (omega arith)
 
--- the place of a path byte among the links is that of the link
-pub slot-same : (room : List ℕ) (e i : ℕ) → i ≡ cond (ltb e 64) e 0 → (ltb e 64 && eqb (getD room i 0) 0) ≡ (ltb e 64 && eqb (getD room e 0) 0)
-slot-same room e i = go (ltb e 64)
-  where
-    go : (t : Bool) → i ≡ cond t e 0 → (t && eqb (getD room i 0) 0) ≡ (t && eqb (getD room e 0) 0)
-    go true q = rw q
-    go false q = refl
+  pub first-found : (n i h : ℕ) → h < n → test (f (i + h)) ≡ true → First test f i n
+  first-found zero i h l e = absurd (omega arith)
+  first-found (suc n) i zero l e = here n i (ap (λ (k : ℕ). test (f k)) {x = i} {y = i + 0} (omega arith) ∙ e)
+  first-found (suc n) i (suc h) l e =
+      go (test (f i)) refl (first-found n (suc i) h (omega arith) (ap (λ (k : ℕ). test (f k)) {x = suc i + h} {y = i + suc h} (omega arith) ∙ e))
+    where
+      go : (t : Bool) → test (f i) ≡ t → First test f (suc i) n → First test f i (suc n)
+      go true q r = here n i q
+      go false q r = later n i q r
+
+-- tests that agree on the values find the same
+pub first-cong : (t u : ℕ → Bool) (f : ℕ → ℕ) (n i : ℕ) → ((h : ℕ) → h < n → t (f (i + h)) ≡ u (f (i + h)))
+    → firstOf t (values i n f) ≡ firstOf u (values i n f)
+unfolding firstOf values
+first-cong t u f zero i same = refl
+first-cong t u f (suc n) i same =
+    let here : t (f i) ≡ u (f i) = subst (λ (k : ℕ). t (f k) ≡ u (f k)) {x = i + 0} {y = i} (omega arith) (same 0 (omega arith)) in
+    let rest : firstOf t (values (suc i) n f) ≡ firstOf u (values (suc i) n f) =
+    first-cong t u f n (suc i) (λ h l. subst (λ (k : ℕ). t (f k) ≡ u (f k)) {x = i + suc h} {y = suc i + h} (omega arith) (same (suc h) (omega arith))) in
+    rw (here, rest)

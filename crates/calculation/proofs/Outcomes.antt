@@ -1,4 +1,5 @@
--- What the definition of `calculate` gives: its cases in the order of their tests, and that an accepted input gets what was ordered, and only that.
+-- What the definition of `calculate` gives: its cases in the order of their tests, and that an accepted input gets the rates that were ordered and the
+-- places that bind, and only those.
 -- Assumes nothing.
 use mathlib.Core.Bool.{_||_}
 use mathlib.Core.List.{List}
@@ -25,9 +26,11 @@ use Rattle.declarations.specs.Declaring.{declarationsOf}
 use Rattle.declarations.specs.declared.Declared.{Declared}
 use Rattle.declarations.proofs.KeepsRanges.{declarations-in-range}
 use Rattle.filling.specs.Lines.{Ranges, problemOf}
-use Rattle.calculation.specs.Calculating.{Ordered, Outcome, afterRecords, calculateOf, doneOf, refusing, resultsOf, saidOf}
+use Rattle.calculation.specs.Binding.{Binds}
+use Rattle.calculation.specs.Calculating.{PlacesBind, Ordered, Outcome, Placed, afterRecords, calculateOf, doneOf, refusing, resultsOf, saidOf}
 use Rattle.calculation.specs.declared.Calculated.{Calculated}
 use Rattle.calculation.specs.declared.Calculated.the-variants as calculated
+use Rattle.calculation.proofs.BindingPlaces.{binds-unique, results-bind}
 use Rattle.calculation.proofs.Writing.{written-at}
 
 module _ (s nums dens places : List ℕ) where
@@ -95,34 +98,58 @@ done-answer d nums dens places a b =
       lowest = λ t h. rw (← (same t h)) (f .lowest t h);
     }
 
+-- and the places are what binds at these rates
+done-placed : (d : Declared) (nums dens places : List ℕ) → 32 ≤ length nums → 32 ≤ length dens → 32 ≤ length places
+    → Placed d (λ t. frac (getD (doneOf d nums dens places .nums) t 0) (getD (doneOf d nums dens places .dens) t 0)) (λ t. getD (doneOf d nums dens places .places) t 0)
+unfolding doneOf problemOf
+done-placed d nums dens places a b c =
+    let f = done-answer d nums dens places a b in
+    record {
+      answer = f;
+      binds = λ t h.
+          subst (Binds d (f .over) (f .rates) t) (sym (written-at (d .sessions) (resultsOf d .places) places t (h .0) (eqb→eq (has t (d .sessions)) 1 (h .1)) c))
+          (results-bind d (f .over) (f .rates) (f .fair) t (h .0) h);
+    }
+
 -- what an outcome must be
 abbrev Right : List ℕ → Outcome → Type 0
-Right s o = Ordered s (o .answer) (o .nums) (o .dens)
+Right s o = PlacesBind s (o .answer) (o .nums) (o .dens) (o .places)
 
-after-right : (s nums dens places : List ℕ) → 32 ≤ length nums → 32 ≤ length dens → (e : End) → Right s (afterRecords e (declarationsOf s .declared) nums dens places)
+after-right : (s nums dens places : List ℕ) → 32 ≤ length nums → 32 ≤ length dens → 32 ≤ length places → (e : End)
+    → Right s (afterRecords e (declarationsOf s .declared) nums dens places)
 unfolding doneOf
-after-right s nums dens places a b (end.Refused r place) = omega arith
-after-right s nums dens places a b end.Finished = done-answer (declarationsOf s .declared) nums dens places a b
+after-right s nums dens places a b c (end.Refused r place) = omega arith
+after-right s nums dens places a b c end.Finished = done-placed (declarationsOf s .declared) nums dens places a b c
 
--- an accepted input gets what was ordered
-pub calculate-ordered : (s nums dens places : List ℕ) → Right s (calculateOf s nums dens places)
+-- an accepted input gets the rates that were ordered, and every declared session the place that binds it
+pub calculate-binds : (s nums dens places : List ℕ) → Right s (calculateOf s nums dens places)
 unfolding calculateOf
-calculate-ordered s nums dens places =
+calculate-binds s nums dens places =
     cases (Right s) (ltb (length nums) 32 || (ltb (length dens) 32 || ltb (length places) 32)) _ _ (λ e. omega arith)
     (λ e.
     let n = or-false (ltb (length nums) 32) _ e in
     let d = or-false (ltb (length dens) 32) _ (n .1) in
     cases (Right s) (ltb 32768 (length s)) _ _ (λ f. omega arith)
-    (λ f. after-right s nums dens places (ltb-false _ _ (n .0)) (ltb-false _ _ (d .0)) (declarationsOf s .end)))
+    (λ f. after-right s nums dens places (ltb-false _ _ (n .0)) (ltb-false _ _ (d .0)) (ltb-false _ _ (d .1)) (declarationsOf s .end)))
 
 -- so does whoever answers and leaves what the definition says
+pub binds-of : (s nums dens places : List ℕ) (r : Calculated) (n d p : List ℕ) → r ≡ calculateOf s nums dens places .answer
+    → n ≡ calculateOf s nums dens places .nums → d ≡ calculateOf s nums dens places .dens → p ≡ calculateOf s nums dens places .places → PlacesBind s r n d p
+binds-of s nums dens places r n d p e f g h =
+    let o = calculateOf s nums dens places in
+    subst (λ (x : Calculated). PlacesBind s x n d p) (sym e)
+    (subst (λ (x : List ℕ). PlacesBind s (o .answer) x d p) (sym f)
+    (subst (λ (x : List ℕ). PlacesBind s (o .answer) (o .nums) x p) (sym g)
+    (subst (λ (x : List ℕ). PlacesBind s (o .answer) (o .nums) (o .dens) x) (sym h) (calculate-binds s nums dens places))))
+
+binds-ordered : (s : List ℕ) (r : Calculated) (n d p : List ℕ) → PlacesBind s r n d p → Ordered s r n d
+binds-ordered s (calculated.Done links sessions) n d p b = b .answer
+binds-ordered s (calculated.Refused refusal place) n d p b = b
+
 pub ordered-of : (s nums dens places : List ℕ) (r : Calculated) (n d : List ℕ) → r ≡ calculateOf s nums dens places .answer
     → n ≡ calculateOf s nums dens places .nums → d ≡ calculateOf s nums dens places .dens → Ordered s r n d
 ordered-of s nums dens places r n d e f g =
-    let o = calculateOf s nums dens places in
-    subst (λ (x : Calculated). Ordered s x n d) (sym e)
-    (subst (λ (x : List ℕ). Ordered s (o .answer) x d) (sym f)
-    (subst (λ (x : List ℕ). Ordered s (o .answer) (o .nums) x) (sym g) (calculate-ordered s nums dens places)))
+    binds-ordered s r n d (calculateOf s nums dens places .places) (binds-of s nums dens places r n d (calculateOf s nums dens places .places) e f g refl)
 
 -- no second result is what was ordered: two answers of one accepted input have the same numerator and denominator for every declared session
 pub ordered-unique : (s : List ℕ) (links sessions : ℕ) (n d n' d' : List ℕ)
@@ -131,3 +158,11 @@ pub ordered-unique : (s : List ℕ) (links sessions : ℕ) (n d n' d' : List ℕ
 ordered-unique s links sessions n d n' d' a b t h =
     let e = answer-unique (problemOf (declarationsOf s .declared)) _ _ a b t h in
     (ap (λ (r : Rate). r .num) e, ap (λ (r : Rate). r .den) e)
+
+-- nor does a second place bind: two such results of one accepted input have the same place for every declared session
+pub places-unique : (s : List ℕ) (links sessions : ℕ) (n d p n' d' p' : List ℕ)
+    → PlacesBind s (calculated.Done links sessions) n d p → PlacesBind s (calculated.Done links sessions) n' d' p'
+    → (t : ℕ) → Active (problemOf (declarationsOf s .declared)) t → getD p t 0 ≡ getD p' t 0
+places-unique s links sessions n d p n' d' p' a b t h =
+    binds-unique (declarationsOf s .declared) (a .answer .over) (a .answer .rates) (b .answer .over) (b .answer .rates) (a .answer .fair) (b .answer .fair) t h
+    (getD p t 0) (getD p' t 0) (a .binds t h) (b .binds t h)

@@ -1,5 +1,5 @@
 -- What `calculate` answers, and what stands in the three lent slices after it, for every input and every slices (01, "The direct calculation",
--- "What is turned away"); and what was ordered: rates in lowest terms that are max-min fair (00, demand 2).
+-- "What is turned away"); and what was ordered: rates in lowest terms that are max-min fair (00, demand 2), and the places that bind (02, §2).
 -- Assumes nothing: definitions.
 use mathlib.Core.Bool.{_||_, cond}
 use mathlib.Core.List.{List}
@@ -7,9 +7,11 @@ use Prim.Native.Nat.{ℕ, _≤_}
 use lib.Dec.{ltb}
 use lib.ListN.{getD, length, set}
 use Rattle.fractions.specs.Fraction.{frac, lowestOf}
+use Rattle.fractions.specs.declared.Rate.{Rate}
 use Rattle.sessions.specs.Set.{members, walk}
 use Rattle.fairness.specs.Answer.{Answer}
 use Rattle.fairness.specs.Figure1.{figure1, rate, values}
+use Rattle.fairness.specs.MaxMin.{Active}
 use Rattle.records.specs.Limits.{inputLimit}
 use Rattle.records.specs.Refusals.{numberOf}
 use Rattle.records.specs.declared.End.{End}
@@ -18,7 +20,7 @@ use Rattle.records.specs.declared.Refusal.the-variants as refusal
 use Rattle.declarations.specs.Declaring.{declarationsOf}
 use Rattle.declarations.specs.declared.Declared.{Declared}
 use Rattle.filling.specs.Lines.{problemOf}
-use Rattle.calculation.specs.Binding.{bindingOf}
+use Rattle.calculation.specs.Binding.{Binds, bindingOf}
 use Rattle.calculation.specs.declared.Calculated.{Calculated}
 use Rattle.calculation.specs.declared.Calculated.the-variants as calculated
 use Rattle.calculation.specs.declared.Results.{Results}
@@ -86,3 +88,14 @@ saidOf (calculated.Refused r place) = record { number = numberOf r; place = plac
 abbrev pub Ordered : List ℕ → Calculated → List ℕ → List ℕ → Type 0
 Ordered s (calculated.Done links sessions) nums dens = Answer (problemOf (declarationsOf s .declared)) (λ t. frac (getD nums t 0) (getD dens t 0))
 Ordered s (calculated.Refused r place) nums dens = 0 ≤ 0  -- of a refusal the definition of the outcome says all
+
+-- 02, §2: rates r that were ordered, and places that say what binds each active session at these rates
+pub record Placed (d : Declared) (r : ℕ → Rate) (place : ℕ → ℕ) : Type 0 where
+  pub answer : Answer (problemOf d) r
+  pub binds : (t : ℕ) → Active (problemOf d) t → Binds d (answer .over) (answer .rates) t (place t)
+
+-- and of an accepted input: in the third slice stands, for each declared session, what binds it at the rates in the first two
+abbrev pub PlacesBind : List ℕ → Calculated → List ℕ → List ℕ → List ℕ → Type 0
+PlacesBind s (calculated.Done links sessions) nums dens places =
+    Placed (declarationsOf s .declared) (λ t. frac (getD nums t 0) (getD dens t 0)) (λ t. getD places t 0)
+PlacesBind s (calculated.Refused r place) nums dens places = 0 ≤ 0

@@ -1,14 +1,13 @@
 // The direct calculation of every session's max-min fair rate (01, "The direct calculation"): the entry point `calculate`.
-ghost use mathlib.Core.Bool.{_&&_, cond};
 ghost use mathlib.Core.Path.{_≡_};
-ghost use Prim.Native.Nat.{ℕ, _+_, _≤_, _<_};
-ghost use lib.Dec.{eqb, ltb};
+ghost use Prim.Native.Nat.{ℕ, _≤_, _<_};
 ghost use lib.ListN.{getD, length};
 ghost use Rattle.fractions.specs.Fraction.{maxRate};
 ghost use Rattle.fairness.specs.Figure1.{values};
-ghost use Rattle.filling.specs.Lines.{Ranges};
-ghost use Rattle.calculation.specs.Binding.{firstOf, bindingByRoom};
-ghost use Rattle.calculation.specs.Calculating.{Ordered, calculateOf, doneOf, saidOf, written};
+ghost use Rattle.search.specs.Crossing.{byteAt};
+ghost use Rattle.filling.specs.Lines.{Ranges, SessionNumbers};
+ghost use Rattle.calculation.specs.Binding.{bindingByLast, bottleneckByLast, firstOf};
+ghost use Rattle.calculation.specs.Calculating.{PlacesBind, Ordered, calculateOf, doneOf, saidOf, written};
 ghost use Rattle.calculation.specs.Results.{Found};
 use declarations::Declared;
 use fractions::Rate;
@@ -34,46 +33,66 @@ pub struct Results {
     pub places: [u64; 32],
 }
 
-// The place of a path byte among the links; of a byte that is no link, 0.
-fn slot(e: u8) -> usize
-    ensures { λ r. ⌜ (r ≡ cond (ltb e 64) e 0) × (r < 64) ⌝ }
+// Whether a path byte is a link that is a bottleneck of a session on it with this rate: nothing is left of it, and the session that was fixed last there,
+// which has the highest rate, has no more.
+fn is_bottleneck<'a>(
+    e: u8,
+    rate: u64,
+    rates: &'a [u64; 32],
+    room: &'a [u64; 64],
+    last: &'a [u32; 64],
+) -> bool
+    requires { ⌜ SessionNumbers (now last) ⌝ }
+    ensures { λ r. ⌜ r ≡ bottleneckByLast (now (rates .entry)) (now (room .entry)) (now (last .entry)) rate e ⌝ }
 {
-    if e < 64 {
-        return e as usize;
+    if 64 <= e {
+        return false;
     }
-    0
+    let i = e as usize;
+    let s = last[i];
+    room[i] == 0 && rates[s as usize] <= rate
 }
 
-// Whether a path byte is a link with nothing left.
-fn is_full(e: u8, left: u64) -> bool
-    ensures { λ r. ⌜ r ≡ (ltb e 64 && eqb left 0) ⌝ }
+// The first link of the path of session t that is a bottleneck of it. There is always one where its rate is below D.
+fn first_bottleneck<'a, 'b>(
+    path: &'a [u8; 256],
+    rates: &'b [u64; 32],
+    room: &'b [u64; 64],
+    last: &'b [u32; 64],
+    t: u32,
+) -> u64
+    requires { ⌜ (t < 32) × SessionNumbers (now last) ⌝ }
+    ensures { λ r. ⌜ r ≡ firstOf (bottleneckByLast (now (rates .entry)) (now (room .entry)) (now (last .entry)) (getD (now (rates .entry)) t 0))
+        (values 0 8 (byteAt (now (path .entry)) t)) ⌝ }
 {
-    e < 64 && left == 0
-}
-
-// The first of the eight path bytes from a place on that is a link with nothing left, or 255.
-fn first_full(path: &[u8; 256], room: &[u64; 64], from: usize) -> u64
-    requires { ⌜ from + 8 ≤ 256 ⌝ }
-    ensures { λ r. ⌜ r ≡ firstOf (λ e. ltb e 64 && eqb (getD (now (room .entry)) e 0) 0) (values 0 8 (λ h. getD (now (path .entry)) (from + h) 0)) ⌝ }
-{
+    let i = t as usize;
+    let rate = rates[i];
+    let from = i * 8;
     for h in 0..8usize {
         let e = path[from + h];
-        if is_full(e, room[slot(e)]) {
+        if is_bottleneck(e, rate, rates, room, last) {
             return records::wide(e);
         }
     }
-    255
+    OWN
 }
 
-// The binding place of session t: "own" if its rate equals D, else the first link on its path that is fully used.
-fn binding(path: &[u8; 256], room: &[u64; 64], rate: u64, limit: u64, t: u32) -> u64
-    requires { ⌜ t < 32 ⌝ }
-    ensures { λ r. ⌜ r ≡ bindingByRoom (now (path .entry)) (now (room .entry)) rate limit t ⌝ }
+// The binding place of session t: "own" if its rate equals D, else the first link of its path that is a bottleneck of it (02, §2).
+fn binding<'a, 'b>(
+    path: &'a [u8; 256],
+    rates: &'b [u64; 32],
+    room: &'b [u64; 64],
+    last: &'b [u32; 64],
+    limit: u64,
+    t: u32,
+) -> u64
+    requires { ⌜ (t < 32) × SessionNumbers (now last) ⌝ }
+    ensures { λ r. ⌜ r ≡ bindingByLast (now (path .entry)) (now (rates .entry)) (now (room .entry)) (now (last .entry)) limit t ⌝ }
 {
-    if rate == limit {
+    if rates[t as usize] == limit {
         return OWN;
     }
-    first_full(path, room, (t as usize) * 8)
+    first_bottleneck(path, rates, room, last, t)
 }
 
 fn no_results() -> Results
@@ -93,21 +112,21 @@ fn find<'a, 'b>(
     maximum: &'a [u64; 32],
     path: &'a [u8; 256],
     den: u64,
-    rate: &'b [u64; 32],
+    rates: &'b [u64; 32],
     room: &'b [u64; 64],
+    last: &'b [u32; 64],
 ) -> Results
-    requires { ⌜ (0 < den) × (den ≤ 118098) × ((t : ℕ) → t < 32 → getD (now access) t 0 ≤ maxRate) ⌝ }
-    ensures { λ r. ⌜ Found (now (access .entry)) (now (maximum .entry)) (now (path .entry)) (now (rate .entry)) (now (room .entry)) den these r ⌝ }
+    requires { ⌜ (0 < den) × (den ≤ 118098) × ((t : ℕ) → t < 32 → getD (now access) t 0 ≤ maxRate) × SessionNumbers (now last) ⌝ }
+    ensures { λ r. ⌜ Found (now (access .entry)) (now (maximum .entry)) (now (path .entry)) (now (rates .entry)) (now (room .entry)) (now (last .entry)) den these r ⌝ }
 {
     let mut out = no_results();
     let mut left = these;
     while left != 0 {
         let t = sessions::next(left);
         let i = t as usize;
-        let x = rate[i];
-        let lowest = Rate::lowest(x, den);
+        let lowest = Rate::lowest(rates[i], den);
         let limit = declarations::own_limit(access[i], maximum[i]);
-        let place = binding(path, room, x, den * limit, t);
+        let place = binding(path, rates, room, last, den * limit, t);
         out.nums[i] = lowest.num;
         out.dens[i] = lowest.den;
         out.places[i] = place;
@@ -149,6 +168,7 @@ fn answer(d: Declared, nums: &mut [u64], dens: &mut [u64], places: &mut [u64]) -
         z.den,
         &z.rate,
         &z.room,
+        &z.last,
     );
     write(declared, &v.nums, nums);
     write(declared, &v.dens, dens);
@@ -167,6 +187,7 @@ pub fn calculate(s: &[u8], nums: &mut [u64], dens: &mut [u64], places: &mut [u64
         × (now (places .exit) ≡ calculateOf (now (s .entry)) (now (nums .entry)) (now (dens .entry)) (now (places .entry)) .places) ⌝ }
     ensures said { λ r. ⌜ saidOf r ≡ saidOf (calculateOf (now (s .entry)) (now (nums .entry)) (now (dens .entry)) (now (places .entry)) .answer) ⌝ }
     ensures ordered { λ r. ⌜ Ordered (now (s .entry)) r (now (nums .exit)) (now (dens .exit)) ⌝ }
+    ensures binds { λ r. ⌜ PlacesBind (now (s .entry)) r (now (nums .exit)) (now (dens .exit)) (now (places .exit)) ⌝ }
 {
     if nums.len() < PLACES {
         return Calculated::Refused {

@@ -1,5 +1,5 @@
--- What a report says of the answer behind it: a refusal's number is never 0, a calculation reported by 0 is the one that was ordered, and a
--- number of `settled` has the meaning of its answer.
+-- What a report says of the answer behind it: a refusal's number is never 0, a calculation reported by 0 is the one that was ordered, with the places
+-- that bind, and a number of `settled` has the meaning of its answer.
 -- Assumes nothing.
 use mathlib.Core.List.{List}
 use mathlib.Core.Logic.{inl, inr}
@@ -7,7 +7,7 @@ use mathlib.Core.Path.{_≡_, ap, sym, _∙_}
 use Prim.Native.Nat.{ℕ, _<_}
 use lib.ListN.{getD}
 use native.Mathlib.Omega.{arith}
-use Rattle.calculation.specs.Calculating.{Ordered, Outcome}
+use Rattle.calculation.specs.Calculating.{PlacesBind, Ordered, Outcome}
 use Rattle.calculation.specs.declared.Calculated.{Calculated}
 use Rattle.calculation.specs.declared.Calculated.the-variants as calculated
 use Rattle.machine.specs.Machine.{Means, ranOf}
@@ -18,7 +18,7 @@ use Rattle.records.specs.Refusals.{numberOf}
 use Rattle.records.specs.Run as records
 use Rattle.records.specs.declared.Refusal.{Refusal}
 use Rattle.records.specs.declared.Refusal.the-variants as refusal
-use Rattle.exports.specs.Meanings.{FairWhereTaken, SettledMeans}
+use Rattle.exports.specs.Meanings.{BindsWhereTaken, FairWhereTaken, SettledMeans}
 use Rattle.exports.specs.Reports.{calculationReportOf, endReportOf, runReportOf, settledNumberOf}
 
 -- the documents' numbers start at 1
@@ -45,10 +45,18 @@ pub calculation-reported : (a : Calculated) (report : List ℕ) (o : Outcome) �
 calculation-reported a report o e f = f ∙ ap calculationReportOf e
 
 module _ (s report nums dens : List ℕ) where
+  -- the report of a refusal does not begin with 0
+  not-refused : (r : Refusal) (place : ℕ) → report ≡ calculationReportOf (calculated.Refused r place) → getD report 0 0 ≡ 0 → ⊥
+  not-refused r place e z = omega (arith, numbered r, sym (ap (λ (l : List ℕ). getD l 0 0) e) ∙ z)
+
   pub fair-where-taken : (a : Calculated) → report ≡ calculationReportOf a → Ordered s a nums dens → FairWhereTaken s report nums dens
   fair-where-taken (calculated.Done links sessions) e fair z = fair
-  fair-where-taken (calculated.Refused r place) e fair z =
-      absurd (omega (arith, numbered r, sym (ap (λ (l : List ℕ). getD l 0 0) e) ∙ z))
+  fair-where-taken (calculated.Refused r place) e fair z = absurd (not-refused r place e z)
+
+  pub binds-where-taken : (places : List ℕ) (a : Calculated) → report ≡ calculationReportOf a → PlacesBind s a nums dens places
+      → BindsWhereTaken s report nums dens places
+  binds-where-taken places (calculated.Done links sessions) e bound z = bound
+  binds-where-taken places (calculated.Refused r place) e bound z = absurd (not-refused r place e z)
 
 -- a run's report and table, from what the run comes to
 pub run-reported : (r : Ran) (u report : List ℕ) (m : records.Ran (List ℕ)) → ranOf r u ≡ m → report ≡ endReportOf (r .taken) (r .end)

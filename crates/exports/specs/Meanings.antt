@@ -1,10 +1,12 @@
--- What the reported numbers mean: an accepted calculation is max-min fair (00, demand 2), and settled is 01's five conditions.
+-- What the reported numbers mean: an accepted calculation is max-min fair (00, demand 2) and says what binds (02, §2), and settled is 01's five
+-- conditions.
 -- Assumes nothing: definitions.
 use mathlib.Core.List.{List}
 use mathlib.Core.Logic.{_⊎_}
 use mathlib.Core.Path.{_≡_}
 use Prim.Native.Nat.{ℕ}
 use lib.ListN.{getD}
+use Rattle.calculation.specs.Calculating.{Placed}
 use Rattle.conditions.specs.Conditions.{FiveConditions}
 use Rattle.fairness.specs.Answer.{Answer}
 use Rattle.filling.specs.Lines.{problemOf}
@@ -16,6 +18,11 @@ use Rattle.declarations.specs.Declaring.{declarationsOf}
 abbrev pub FairWhereTaken : List ℕ → List ℕ → List ℕ → List ℕ → Type 0
 FairWhereTaken s report nums dens =
     getD report 0 0 ≡ 0 → Answer (problemOf (declarationsOf s .declared)) (λ t. frac (getD nums t 0) (getD dens t 0))
+
+-- and what binds each of them at these rates
+abbrev pub BindsWhereTaken : List ℕ → List ℕ → List ℕ → List ℕ → List ℕ → Type 0
+BindsWhereTaken s report nums dens places =
+    getD report 0 0 ≡ 0 → Placed (declarationsOf s .declared) (λ t. frac (getD nums t 0) (getD dens t 0)) (λ t. getD places t 0)
 
 -- the number of `settled`, of a table that passes the test of refusal 14: 1 under the five conditions, 0 where they do not hold; 14 of one that fails it;
 -- no other

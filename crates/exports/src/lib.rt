@@ -4,7 +4,7 @@ ghost use mathlib.Core.Path.{_≡_};
 ghost use Rattle.calculation.specs.Calculating.{calculateOf};
 ghost use Rattle.machine.specs.Machine.{answerOf, machineOf, sessionOf, sessionReportOf, toldReportOf};
 ghost use Rattle.table.specs.Words.{countOf, emptyWords};
-ghost use Rattle.exports.specs.Meanings.{FairWhereTaken, SettledMeans};
+ghost use Rattle.exports.specs.Meanings.{BindsWhereTaken, FairWhereTaken, SettledMeans};
 ghost use Rattle.exports.specs.Reports.{calculationReportOf, endReportOf, runReportOf, settledNumberOf};
 use calculation::Calculated;
 use ends::Told;
@@ -77,6 +77,7 @@ pub extern "C" fn umbraconga_calculate(
         × (now (dens .exit) ≡ calculateOf (now (records .entry)) (now (nums .entry)) (now (dens .entry)) (now (places .entry)) .dens)
         × (now (places .exit) ≡ calculateOf (now (records .entry)) (now (nums .entry)) (now (dens .entry)) (now (places .entry)) .places) ⌝ }
     ensures ordered { λ _. ⌜ FairWhereTaken (now (records .entry)) (now (report .exit)) (now (nums .exit)) (now (dens .exit)) ⌝ }
+    ensures binds { λ _. ⌜ BindsWhereTaken (now (records .entry)) (now (report .exit)) (now (nums .exit)) (now (dens .exit)) (now (places .exit)) ⌝ }
 {
     let answer = calculation::calculate(records, nums, dens, places);
     *report = calculation_report(answer);

@@ -7,6 +7,7 @@ pub mod NetOfProblem
 pub mod Criterion
 pub mod Uniqueness
 pub mod SameRates
+pub mod Bottlenecks
 pub mod Rounds
 pub mod Products
 pub mod Denominators

@@ -113,7 +113,8 @@ module _ (w : Net) (N : ℕ) (x : ℕ → ℕ) (d : ℕ → Bool) (pos : (s : �
   unfolding k
   left-after e h = left-next e h
 
-  at-most : (t : ℕ) → t < w .sessions → x' t ≤ leftAt w N x b * w .weight t
+  -- no rate is above the share that the round gives
+  pub at-most : (t : ℕ) → t < w .sessions → x' t ≤ leftAt w N x b * w .weight t
   at-most t h = go (split (ch t)) (split (d t))
     where
       go : T (ch t) ⊎ T (not (ch t)) → T (d t) ⊎ T (not (d t)) → x' t ≤ leftAt w N x b * w .weight t

@@ -8,7 +8,7 @@ use Prim.Native.Nat.{ℕ, _*_, _<_}
 use native.Mathlib.Nat.{eq-of-mul-eq-mul-right, le-of-mul-le-mul-right, mul-le-mul-right}
 use native.Mathlib.Omega.{arith}
 use lib.Dec.{T}
-use Rattle.fairness.specs.MaxMin.{Active, Problem, Restricted, used}
+use Rattle.fairness.specs.MaxMin.{Active, Bottleneck, Problem, Restricted, used}
 use Rattle.fairness.specs.Sum.{part}
 use Rattle.fairness.proofs.Sums.{sum-eq, sum-scale}
 
@@ -33,16 +33,17 @@ module _ (p : Problem) (N : ℕ) (x : ℕ → ℕ) (M : ℕ) (y : ℕ → ℕ) (
   pub full-same : (e : ℕ) → used p x e ≡ N * p .capacity e → used p y e ≡ M * p .capacity e
   full-same e q = eq-of-mul-eq-mul-right N pos (used p y e) (M * p .capacity e) (omega (arith, used-same e, ap (λ v. M * v) q))
 
+  -- a bottleneck
+  pub bottleneck-same : (s : ℕ) → Active p s → (e : ℕ) → Bottleneck p N x s e → Bottleneck p M y s e
+  bottleneck-same s h e k =
+      record {
+        is-link = k .is-link;
+        crosses = k .crosses;
+        full = full-same e (k .full);
+        most = λ t ht o. le-of-mul-le-mul-right {k = N} (omega (arith, same s h, same t ht, mul-le-mul-right M (k .most t ht o))) pos;
+      }
+
   -- the own limit or a bottleneck
   pub restricted-same : (s : ℕ) → Active p s → Restricted p N x s → Restricted p M y s
   restricted-same s h (inl q) = inl (own-same s h q)
-  restricted-same s h (inr k) =
-      inr (
-        k .0,
-        record {
-          is-link = k .1 .is-link;
-          crosses = k .1 .crosses;
-          full = full-same (k .0) (k .1 .full);
-          most = λ t ht o. le-of-mul-le-mul-right {k = N} (omega (arith, same s h, same t ht, mul-le-mul-right M (k .1 .most t ht o))) pos;
-        },
-      )
+  restricted-same s h (inr k) = inr (k .0, bottleneck-same s h (k .0) (k .1))

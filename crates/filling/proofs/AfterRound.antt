@@ -5,30 +5,30 @@ use mathlib.Core.List.{List}
 use mathlib.Core.Logic.{_⊎_, inl, inr}
 use mathlib.Core.Path.{_≡_, refl, sym, ap, _∙_, subst}
 use Prim.Native.Nat.{ℕ, zero, suc, _+_, _-_, _*_, _^_, _<_, _≤_, min}
-use native.Mathlib.Nat.{mul-le-mul, mul-le-mul-right, mul-pos}
+use native.Mathlib.Nat.{mul-le-mul, mul-le-mul-left, mul-le-mul-right, mul-pos}
 use native.Mathlib.Omega.{arith}
 use lib.Bits.{and-le-l, and-zero-l, bitAnd}
 use lib.Count.{ones}
-use lib.Dec.{T, eqb}
+use lib.Dec.{T, eqb, eqb→eq}
 use lib.ListN.{getD, length}
 use Rattle.sessions.specs.Set.{has}
-use Rattle.sessions.proofs.Members.{has-lt}
+use Rattle.sessions.proofs.Members.{has-lt, has-zero}
 use Rattle.sessions.proofs.Counts.{ones-zero}
 use Rattle.sessions.proofs.Operations.{has-and}
 use Rattle.fairness.specs.Figure1.{Net, leftAt, loadAt, net, openAt}
 use Rattle.fairness.specs.Sum.{part, sum}
 use Rattle.fairness.proofs.Denominators.{SmallDenominator, small-32, small-step}
 use Rattle.fairness.proofs.NetOfProblem.{cap-link}
-use Rattle.fairness.proofs.Rounds.{Filling, falls, left-after, step}
+use Rattle.fairness.proofs.Rounds.{Filling, at-most, falls, left-after, step}
 use Rattle.fairness.proofs.Sums.{sum-eq}
-use Rattle.fractions.proofs.Cases.{order}
+use Rattle.fractions.proofs.Cases.{order, split}
 use Rattle.declarations.specs.declared.Declared.{Declared}
 use Rattle.filling.specs.Lines.{problemOf}
-use Rattle.filling.specs.OneRound.{LinksAfter, Running, fixedIn}
+use Rattle.filling.specs.OneRound.{LinksAfter, Remembered, Running, fixedIn}
 use Rattle.filling.specs.SmallestShare.{LinksFit, partsLimit, wordOf}
 use Rattle.filling.specs.State.{Fill, Links, fillOf}
 use Rattle.filling.specs.declared.Given.{Given}
-use Rattle.filling.proofs.OpenSessions.{few, left-is, ones-sum, open-ones, room-link, weights, word-link}
+use Rattle.filling.proofs.OpenSessions.{T-one, few, left-is, member-link, ones-sum, open-ones, room-link, weights, word-link}
 use Rattle.filling.proofs.RoundOfFigure1.{Turn, openAfter}
 
 -- how many of a link's sessions are chosen, one session's part
@@ -195,6 +195,57 @@ module _ (d : Declared) (z : Fill) (run : Running d z) (l : Given) (small-word :
               mul-le-mul den-after (run .ranges .capacity e h),
             )
 
+    -- at a link where nobody was open none is chosen
+    unchosen : (e : ℕ) → e < 64 → getD (z .links .at) e 0 ≡ 0 → (s : ℕ) → s < 32 → T (w .on e s) → T (not (ch s))
+    unchosen e h q s k o = go (split (ch s))
+      where
+        go : T (ch s) ⊎ T (not (ch s)) → T (not (ch s))
+        go (inl c) =
+            absurd
+            (omega (
+              arith,
+              turn .chosen-open s k (eqb→eq (has s (l .chosen)) 1 c),
+              run .at e h s k .0 o,
+              ap (has s) q,
+              has-zero s,
+            ))
+        go (inr n) = n
+
+    -- a link that loses its last open session remembers one that gets the share, and no rate is above that
+    next-last : (e : ℕ) → e < 64 → getD (links' .at) e 0 ≡ 0 → (t : ℕ) → t < 32 → T (w .on e t)
+        → T (w .on e (getD (links' .last) e 0)) × (x' t ≤ x' (getD (links' .last) e 0))
+    unfolding net problemOf
+    next-last e h q t k o = go (links-are .last e h)
+      where
+        u : ℕ
+        u = getD (links' .last) e 0
+
+        low : u < 32
+        low = links-are .long .low e h
+
+        go : Remembered (λ s. has s (l .chosen) ≡ 1) (getD (z .links .at) e 0) (getD (z .links .last) e 0) (getD (links' .at) e 0) u
+            → T (w .on e u) × (x' t ≤ x' u)
+        go (inl same) =
+            let none = same .1 q in
+            let old : T (w .on e u) × (x t ≤ x u) =
+            subst (λ (v : ℕ). T (w .on e v) × (x t ≤ x v)) (sym (same .0)) (run .last e h none t k o) in (
+              old .0,
+              omega (
+                arith,
+                turn .is-round .miss t k (unchosen e h none t k o) .0,
+                turn .is-round .miss u low (unchosen e h none u low (old .0)) .0,
+                mul-le-mul-left (openAt w fixed b) (old .1),
+              ),
+            )
+        go (inr one) = (
+          member-link d z run e h u low (ap (has u) (word-link d z run e h) ∙ one .1) .0,
+          omega (
+            arith,
+            at-most w (z .den) x fixed (weights d) (run .filling) b ch N' x' (fixedIn opens') (turn .is-round) t k,
+            turn .is-round .hit u low (T-one (has u (l .chosen)) (one .0)) .0,
+          ),
+        )
+
     pub running : Running d (fillOf (z .den * l .count) (openAfter (z .opens) l) links' rate')
     running =
         record {
@@ -207,6 +258,7 @@ module _ (d : Declared) (z : Fill) (run : Running d z) (l : Given) (small-word :
           small = next-small;
           declared = λ s h. omega (arith, run .declared s h, turn .open-after s h);
           at = next-at;
+          last = next-last;
           room = λ e h p. next-room e h (omega (arith, links-are .small e h));
           kept = next-kept;
         }

@@ -1,122 +1,28 @@
--- Sessions that leave the links of their paths: one byte of a path, one session, and all that are chosen.
+-- Sessions that leave the links of their paths: one session, byte by byte of its path, and all that are chosen.
 -- Assumes nothing.
 use mathlib.Core.Bool.{Bool, _||_, cond, false, true}
 use mathlib.Core.List.{List}
 use mathlib.Core.Logic.{_⊎_, inl, inr}
 use mathlib.Core.Path.{_≡_, refl, sym, ap, _∙_, subst}
-use Prim.Native.Nat.{ℕ, zero, suc, _+_, _*_, _/_, _%_, _<_, _≤_}
+use Prim.Native.Nat.{ℕ, _+_, _*_, _<_, _≤_}
 use native.Mathlib.Decide.{ℕ-discrete}
 use native.Mathlib.Nat.{mul-le-mul-left}
 use native.Mathlib.Omega.{arith}
-use borrow.Author.Tests.{eq-eqb, ne-eqb}
 use lib.Count.{ones}
 use lib.Dec.{T, eqb, eqb→eq, eqb-refl}
-use lib.ListN.{getD, length-set, set}
-use lib.Seq.{getD-set-other, getD-set-same}
+use lib.ListN.{getD, set}
 use Rattle.sessions.specs.Set.{cut, has}
-use Rattle.sessions.proofs.Counts.{ones-cut, ones-pos}
+use Rattle.sessions.proofs.Counts.{ones-pos}
 use Rattle.sessions.proofs.Members.{cut-le, has-cut-le, has-cut-other, has-cut-same, has-pos, has-zero}
 use Rattle.fairness.specs.Figure1.{any}
 use Rattle.fairness.proofs.Anys.{any-at, any-next}
 use Rattle.filling.specs.Lines.{crossesOf}
-use Rattle.filling.specs.OneRound.{Enough, Leavable, Leaves, Whole, Without}
+use Rattle.filling.specs.OneRound.{Enough, Leavable, Leaves, Remembers, Whole, Without}
 use Rattle.filling.specs.SmallestShare.{Busy}
-use Rattle.filling.specs.State.{Links, linksOf}
+use Rattle.filling.specs.State.{Links}
 use Rattle.filling.proofs.Crossings.{some-hop}
-
--- who is no member cannot be taken out
-cut-none : (s w : ℕ) → has s w ≡ 0 → cut s w ≡ w
-unfolding has cut
-cut-none zero w q = omega arith
-cut-none (suc s) w q = ap (λ (v : ℕ). v * 2 + w % 2) (cut-none s (w / 2) q) ∙ omega arith
-
--- ONE LINK ------------------------------------------------------------------------------------------------------------
-
--- nobody leaves where the session is not open
-pub leaves-still : (there : ℕ → Bool) (s share : ℕ) (k : Links) → ((e : ℕ) → e < 64 → T (there e) → has s (getD (k .at) e 0) ≡ 0)
-    → Leaves there s share k k
-leaves-still there s share k n =
-    record { at = λ e h. go (there e) (getD (k .at) e 0) (n e h); room = λ e h. refl; count = λ e h. refl; busy = λ b. b; long = λ w. w }
-  where
-    go : (t : Bool) (w : ℕ) → (T t → has s w ≡ 0) → w ≡ cond t (cut s w) w
-    go true w f = sym (cut-none s w (f tt))
-    go false w f = refl
-
--- a byte that is no link
-pub leaves-skip : (e s share : ℕ) (k : Links) → 64 ≤ e → Leaves (eqb e) s share k k
-leaves-skip e s share k h = leaves-still (eqb e) s share k (λ j l t. absurd (omega (arith, eqb→eq e j t)))
-
--- a link where the session is not open
-pub leaves-out : (e s share : ℕ) (k : Links) → has s (getD (k .at) e 0) ≡ 0 → Leaves (eqb e) s share k k
-leaves-out e s share k q = leaves-still (eqb e) s share k (λ j l t. ap (λ (y : ℕ). has s (getD (k .at) y 0)) (sym (eqb→eq e j t)) ∙ q)
-
--- a link where it is
-module _ (e s share : ℕ) (k : Links) (w x n busy : ℕ) (whole : Whole k)
-    (low : e < 64) (there : has s (getD (k .at) e 0) ≡ 1) (w-is : w ≡ cut s (getD (k .at) e 0)) (x-is : x + share ≡ getD (k .room) e 0)
-    (n-is : n + 1 ≡ getD (k .count) e 0) (busy-is : ((w ≡ 0) × (busy ≡ cut e (k .busy))) ⊎ (busy ≡ k .busy)) where
-  abbrev r : Links
-  r = linksOf busy (set (k .room) e x) (set (k .at) e w) (set (k .count) e n)
-
-  at-here : getD (r .at) e 0 ≡ w
-  at-here = getD-set-same (k .at) e w 0 (omega (arith, whole .words))
-
-  fewer : ones (getD (k .at) e 0) ≡ ones w + 1
-  fewer = ones-cut s (getD (k .at) e 0) there ∙ ap (λ (v : ℕ). ones v + 1) (sym w-is)
-
-  at-other : (j : ℕ) → (e ≡ j → ⊥) → getD (r .at) j 0 ≡ getD (k .at) j 0
-  at-other j d = getD-set-other (k .at) e j w 0 (λ q. d (sym q))
-
-  room-here : getD (r .room) e 0 + share * ones (getD (k .at) e 0) ≡ getD (k .room) e 0 + share * ones (getD (r .at) e 0)
-  room-here =
-      omega (
-        arith,
-        getD-set-same (k .room) e x 0 (omega (arith, whole .rooms)),
-        ap (λ (v : ℕ). share * v) fewer,
-        ap (λ (v : ℕ). share * ones v) at-here,
-        x-is,
-      )
-
-  count-here : getD (r .count) e 0 + ones (getD (k .at) e 0) ≡ getD (k .count) e 0 + ones (getD (r .at) e 0)
-  count-here = omega (arith, getD-set-same (k .count) e n 0 (omega (arith, whole .counts)), fewer, ap ones at-here, n-is)
-
-  at : (j : ℕ) → Dec (e ≡ j) → getD (r .at) j 0 ≡ cond (eqb e j) (cut s (getD (k .at) j 0)) (getD (k .at) j 0)
-  at j (yes q) =
-      rw (eq-eqb e j q) (ap (λ (y : ℕ). getD (r .at) y 0) (sym q) ∙ at-here ∙ w-is ∙ ap (λ (y : ℕ). cut s (getD (k .at) y 0)) q)
-  at j (no d) = rw (ne-eqb e j d) (at-other j d)
-
-  room : (j : ℕ) → Dec (e ≡ j) → getD (r .room) j 0 + share * ones (getD (k .at) j 0) ≡ getD (k .room) j 0 + share * ones (getD (r .at) j 0)
-  room j (yes q) =
-      subst (λ (y : ℕ). getD (r .room) y 0 + share * ones (getD (k .at) y 0) ≡ getD (k .room) y 0 + share * ones (getD (r .at) y 0)) q room-here
-  room j (no d) =
-      omega (arith, getD-set-other (k .room) e j x 0 (λ q. d (sym q)), ap (λ (v : ℕ). share * ones v) (at-other j d))
-
-  count : (j : ℕ) → Dec (e ≡ j) → getD (r .count) j 0 + ones (getD (k .at) j 0) ≡ getD (k .count) j 0 + ones (getD (r .at) j 0)
-  count j (yes q) =
-      subst (λ (y : ℕ). getD (r .count) y 0 + ones (getD (k .at) y 0) ≡ getD (k .count) y 0 + ones (getD (r .at) y 0)) q count-here
-  count j (no d) = omega (arith, getD-set-other (k .count) e j n 0 (λ q. d (sym q)), ap ones (at-other j d))
-
-  stays-busy : Busy (k .busy) (k .at) → (j : ℕ) → j < 64 → has j busy ≡ 0 → Dec (e ≡ j) → ((w ≡ 0) × (busy ≡ cut e (k .busy))) ⊎ (busy ≡ k .busy)
-      → getD (r .at) j 0 ≡ 0
-  stays-busy b j h z (yes q) (inl o) = ap (λ (y : ℕ). getD (r .at) y 0) (sym q) ∙ at-here ∙ o .0
-  stays-busy b j h z (yes q) (inr o) =
-      absurd (omega (arith, b e low (ap (λ (y : ℕ). has y (k .busy)) q ∙ sym (ap (has j) o) ∙ z), has-pos s (getD (k .at) e 0) there))
-  stays-busy b j h z (no d) (inl o) = at-other j d ∙ b j h (sym (has-cut-other e j (k .busy) d) ∙ sym (ap (has j) (o .1)) ∙ z)
-  stays-busy b j h z (no d) (inr o) = at-other j d ∙ b j h (sym (ap (has j) o) ∙ z)
-
-  pub leaves-one : Leaves (eqb e) s share k r
-  leaves-one =
-      record {
-        at = λ j h. at j (ℕ-discrete e j);
-        room = λ j h. room j (ℕ-discrete e j);
-        count = λ j h. count j (ℕ-discrete e j);
-        busy = λ b j h z. stays-busy b j h z (ℕ-discrete e j) busy-is;
-        long = λ o.
-            record {
-              rooms = length-set (k .room) e x ∙ o .rooms;
-              words = length-set (k .at) e w ∙ o .words;
-              counts = length-set (k .count) e n ∙ o .counts;
-            };
-      }
+use Rattle.filling.proofs.LeavingALink.{cut-none, leaves-still}
+use Rattle.filling.proofs.Remembering.{remembers-more, remembers-none, remembers-then}
 
 -- THE PATH OF ONE SESSION ---------------------------------------------------------------------------------------------
 
@@ -128,6 +34,11 @@ cut-twice : (t u : Bool) (s w : ℕ) → cond t (cut s (cond u (cut s w) w)) (co
 cut-twice true true s w = cut-none s (cut s w) (has-cut-same s w)
 cut-twice true false s w = refl
 cut-twice false u s w = refl
+
+-- a word without session s, where it leaves
+none-comes : (c : Bool) (s t w : ℕ) → has t (cond c (cut s w) w) ≤ has t w
+none-comes true s t w = has-cut-le t s w
+none-comes false s t w = omega arith
 
 module _ (path : List ℕ) (s share h : ℕ) (k m : Links) (e : ℕ) (e-is : e ≡ getD path (s * 8 + h) 0) (a : Leaves (some-hop path s h) s share k m) where
   -- one byte of the path more
@@ -142,6 +53,9 @@ module _ (path : List ℕ) (s share h : ℕ) (k m : Links) (e : ℕ) (e-is : e �
             (ap (λ (y : ℕ). eqb y j || some-hop path s h j) e-is ∙ sym (any-next h (λ i. eqb (getD path (s * 8 + i) 0) j)));
         room = λ j l. omega (arith, a .room j l, b .room j l);
         count = λ j l. omega (arith, a .count j l, b .count j l);
+        last =
+            remembers-then (_≡_ s) k m r (λ j l t. omega (arith, ap (has t) (a .at j l), none-comes (some-hop path s h j) s t (getD (k .at) j 0)))
+            (a .last) (b .last);
         busy = λ o. b .busy (a .busy o);
         long = λ o. b .long (a .long o);
       }
@@ -174,6 +88,7 @@ pub record Departed (path : List ℕ) (chosen left share : ℕ) (k r : Links) : 
   pub small : (e : ℕ) → e < 64 → getD (r .at) e 0 ≤ getD (k .at) e 0
   pub room : (e : ℕ) → e < 64 → getD (r .room) e 0 + share * ones (getD (k .at) e 0) ≡ getD (k .room) e 0 + share * ones (getD (r .at) e 0)
   pub count : (e : ℕ) → e < 64 → getD (r .count) e 0 + ones (getD (k .at) e 0) ≡ getD (k .count) e 0 + ones (getD (r .at) e 0)
+  pub last : Remembers (λ t. has t chosen ≡ 1) k r
   pub busy : Busy (k .busy) (k .at) → Busy (r .busy) (r .at)
   pub long : Whole k → Whole r
 
@@ -186,6 +101,7 @@ departed-none path chosen share k =
       small = λ e h. omega arith;
       room = λ e h. refl;
       count = λ e h. refl;
+      last = remembers-none (λ t. has t chosen ≡ 1) k;
       busy = λ b. b;
       long = λ w. w;
     }
@@ -198,10 +114,6 @@ other-stays false s t w n = refl
 it-goes : (c : Bool) (s w : ℕ) → T c → has s (cond c (cut s w) w) ≡ 0
 it-goes true s w t = has-cut-same s w
 it-goes false s w t = absurd t
-
-none-comes : (c : Bool) (s t w : ℕ) → has t (cond c (cut s w) w) ≤ has t w
-none-comes true s t w = has-cut-le t s w
-none-comes false s t w = omega arith
 
 no-larger : (c : Bool) (s w : ℕ) → cond c (cut s w) w ≤ w
 no-larger true s w = cut-le s w
@@ -229,6 +141,9 @@ module _ (path : List ℕ) (chosen left share : ℕ) (k now : Links) (d : Depart
         small = λ e h. omega (arith, b .at e h, no-larger (crossesOf path e s) s (getD (now .at) e 0), d .small e h);
         room = λ e h. omega (arith, d .room e h, b .room e h);
         count = λ e h. omega (arith, d .count e h, b .count e h);
+        last =
+            remembers-then (λ t. has t chosen ≡ 1) k now r (d .fewer) (d .last)
+            (remembers-more (_≡_ s) (λ t. has t chosen ≡ 1) (λ t e. subst (λ (y : ℕ). has y chosen ≡ 1) e mine) now r (b .last));
         busy = λ o. b .busy (d .busy o);
         long = λ o. b .long (d .long o);
       }
@@ -264,6 +179,7 @@ departed-all path chosen left share k r z d =
       small = d .small;
       room = d .room;
       count = d .count;
+      last = d .last;
       busy = d .busy;
       long = d .long;
     }

@@ -3,6 +3,8 @@ mod Visits
 mod SmallestShare
 mod SmallestOfAll
 mod Crossings
+mod Remembering
+mod LeavingALink
 mod Leaving
 mod Rates
 mod OpenSessions

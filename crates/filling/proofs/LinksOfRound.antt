@@ -43,7 +43,7 @@ module _ (d : Declared) (z : Fill) (run : Running d z) (l : Given)
     (best : GivenAmong (roomOf (z .links .room) (z .den) (limitsOf (d .access) (d .maximum))) (wordOf (z .links) (z .opens)) l) (m : List ℕ)
     (grown : Grown (z .links .busy) (l .count) (z .links .room) m) where
   abbrev k : Links
-  k = linksOf (z .links .busy) m (z .links .at) (z .links .count)
+  k = linksOf (z .links .busy) m (z .links .at) (z .links .count) (z .links .last)
 
   -- a link with somebody open is busy
   grown-there : (e : ℕ) → e < 64 → 0 < getD (z .links .at) e 0 → getD m e 0 ≡ getD (z .links .room) e 0 * l .count
@@ -56,7 +56,14 @@ module _ (d : Declared) (z : Fill) (run : Running d z) (l : Given)
   pub enough : Enough (l .room) k
   enough =
       record {
-        whole = record { rooms = grown .long ∙ run .whole .rooms; words = run .whole .words; counts = run .whole .counts };
+        whole =
+            record {
+              rooms = grown .long ∙ run .whole .rooms;
+              words = run .whole .words;
+              counts = run .whole .counts;
+              lasts = run .whole .lasts;
+              low = run .whole .low;
+            };
         room = λ e h p. omega (arith, grown-there e h p, room-enough d z run l best e h p);
         count = run .links .count;
       }
@@ -105,6 +112,7 @@ module _ (d : Declared) (z : Fill) (run : Running d z) (l : Given)
           small = without .small;
           room = room;
           still = still;
+          last = without .last;
           count = λ e h. omega (arith, without .count e h, run .links .count e h);
           busy = without .busy (run .links .busy);
           long = without .long (enough .whole);

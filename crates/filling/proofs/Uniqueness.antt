@@ -1,7 +1,11 @@
--- What the answer of the calculation settles: two answers give each active session the same fraction, and the same links are full.
+-- What the answer of the calculation settles: two answers give each active session the same fraction, the same links are full, and the sessions that were
+-- fixed last on a link have the same fraction.
 -- Assumes nothing.
 use mathlib.Core.Path.{_≡_}
 use Prim.Native.Nat.{ℕ, _*_, _<_}
+use native.Mathlib.Nat.{mul-le-mul-right}
+use native.Mathlib.Omega.{arith}
+use lib.Dec.{T}
 use lib.ListN.{getD}
 use Rattle.fairness.specs.MaxMin.{Active, used}
 use Rattle.fairness.proofs.SameRates.{full-same}
@@ -25,3 +29,17 @@ full-same-lines d q r f g e =
 pub full-unique : (d : Declared) (q r : Fixed) → Filled d q → Filled d r → (e : ℕ) → e < 64 → getD (q .room) e 0 ≡ 0 → getD (r .room) e 0 ≡ 0
 full-unique d q r f g e h z =
     g .spent e h (full-same-lines d q r f g e (f .full e h z))
+
+-- the sessions that are said to have been fixed last on a link may be two, but have the same rate: the highest there
+pub last-unique : (d : Declared) (q r : Fixed) → Filled d q → Filled d r → (e : ℕ) → e < 64 → (t : ℕ) → Active (problemOf d) t → T (problemOf d .crosses e t)
+    → getD (q .rate) (getD (q .last) e 0) 0 * r .den ≡ getD (r .rate) (getD (r .last) e 0) 0 * q .den
+last-unique d q r f g e h t a c =
+    let i = f .last e h t a c in
+    let j = g .last e h t a c in
+    omega (
+      arith,
+      rates-unique d q r f g (getD (q .last) e 0) (i .active),
+      rates-unique d q r f g (getD (r .last) e 0) (j .active),
+      mul-le-mul-right (r .den) (i .most (getD (r .last) e 0) (j .active) (j .crosses)),
+      mul-le-mul-right (q .den) (j .most (getD (q .last) e 0) (i .active) (i .crosses)),
+    )

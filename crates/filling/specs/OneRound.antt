@@ -14,7 +14,7 @@ use Rattle.fairness.specs.Figure1.{leftAt, loadAt, net}
 use Rattle.fairness.proofs.Rounds.{Filling}
 use Rattle.fairness.proofs.Denominators.{SmallDenominator}
 use Rattle.declarations.specs.declared.Declared.{Declared}
-use Rattle.filling.specs.Lines.{Ranges, crossesOf, problemOf}
+use Rattle.filling.specs.Lines.{Ranges, SessionNumbers, crossesOf, problemOf}
 use Rattle.filling.specs.SmallestShare.{Busy, Counted, LinksFit, partsLimit}
 use Rattle.filling.specs.State.{Fill, Links}
 use Rattle.filling.specs.declared.Given.{Given}
@@ -25,17 +25,29 @@ pub record Grown (busy by : ℕ) (room r : List ℕ) : Type 0 where
   pub at : (e : ℕ) → e < 64 → has e busy ≡ 1 → getD r e 0 ≡ getD room e 0 * by
   pub other : (e : ℕ) → e < 64 → has e busy ≡ 0 → getD r e 0 ≡ getD room e 0
 
--- the arrays have a place for each link
+-- the arrays have a place for each link, and those that were fixed last are session numbers
 pub record Whole (k : Links) : Type 0 where
   pub rooms : length (k .room) ≡ 64
   pub words : length (k .at) ≡ 64
   pub counts : length (k .count) ≡ 64
+  pub lasts : length (k .last) ≡ 64
+  pub low : SessionNumbers (k .last)
+
+-- sessions of `These` leave a link whose open sessions are the word w, and v after that. It remembers l before and m after: the same one, which is
+-- allowed only where it has not lost its last open session, or one of those that left
+abbrev pub Remembered : (ℕ → Type 0) → ℕ → ℕ → ℕ → ℕ → Type 0
+Remembered These w l v m = ((m ≡ l) × (v ≡ 0 → w ≡ 0)) ⊎ (These m × (has m w ≡ 1))
+
+-- so it is at every link
+abbrev pub Remembers : (ℕ → Type 0) → Links → Links → Type 0
+Remembers These k r = (e : ℕ) → e < 64 → Remembered These (getD (k .at) e 0) (getD (k .last) e 0) (getD (r .at) e 0) (getD (r .last) e 0)
 
 -- r is k without session s at the links of `there`, where a share goes out for each session that leaves a link
 pub record Leaves (there : ℕ → Bool) (s share : ℕ) (k r : Links) : Type 0 where
   pub at : (e : ℕ) → e < 64 → getD (r .at) e 0 ≡ cond (there e) (cut s (getD (k .at) e 0)) (getD (k .at) e 0)
   pub room : (e : ℕ) → e < 64 → getD (r .room) e 0 + share * ones (getD (k .at) e 0) ≡ getD (k .room) e 0 + share * ones (getD (r .at) e 0)
   pub count : (e : ℕ) → e < 64 → getD (r .count) e 0 + ones (getD (k .at) e 0) ≡ getD (k .count) e 0 + ones (getD (r .at) e 0)
+  pub last : Remembers (_≡_ s) k r
   pub busy : Busy (k .busy) (k .at) → Busy (r .busy) (r .at)
   pub long : Whole k → Whole r
 
@@ -52,6 +64,7 @@ pub record Without (path : List ℕ) (chosen share : ℕ) (k r : Links) : Type 0
   pub small : (e : ℕ) → e < 64 → getD (r .at) e 0 ≤ getD (k .at) e 0
   pub room : (e : ℕ) → e < 64 → getD (r .room) e 0 + share * ones (getD (k .at) e 0) ≡ getD (k .room) e 0 + share * ones (getD (r .at) e 0)
   pub count : (e : ℕ) → e < 64 → getD (r .count) e 0 + ones (getD (k .at) e 0) ≡ getD (k .count) e 0 + ones (getD (r .at) e 0)
+  pub last : Remembers (λ t. has t chosen ≡ 1) k r
   pub busy : Busy (k .busy) (k .at) → Busy (r .busy) (r .at)
   pub long : Whole k → Whole r
 
@@ -70,6 +83,7 @@ pub record LinksAfter (k : Links) (l : Given) (r : Links) : Type 0 where
       → getD (r .room) e 0 + l .room * ones (bitAnd (getD (k .at) e 0) (l .chosen)) ≡ getD (k .room) e 0 * l .count
   pub still : (e : ℕ) → e < 64 → getD (k .at) e 0 ≡ 0
       → (getD (r .room) e 0 ≡ getD (k .room) e 0) ⊎ (getD (r .room) e 0 ≡ getD (k .room) e 0 * l .count)
+  pub last : Remembers (λ t. has t (l .chosen) ≡ 1) k r
   pub count : Counted (r .at) (r .count)
   pub busy : Busy (r .busy) (r .at)
   pub long : Whole r
@@ -107,6 +121,9 @@ pub record Running (d : Declared) (z : Fill) : Type 0 where
   pub at : (e : ℕ) → e < 64 → (s : ℕ) → s < 32
       → (T (net (problemOf d) .on e s) → has s (getD (z .links .at) e 0) ≡ has s (z .opens))
       × (T (not (net (problemOf d) .on e s)) → has s (getD (z .links .at) e 0) ≡ 0)
+  -- where all are fixed, the one that was fixed last has the highest rate: no round gives less than one before it
+  pub last : (e : ℕ) → e < 64 → getD (z .links .at) e 0 ≡ 0 → (t : ℕ) → t < 32 → T (net (problemOf d) .on e t)
+      → T (net (problemOf d) .on e (getD (z .links .last) e 0)) × (getD (z .rate) t 0 ≤ getD (z .rate) (getD (z .links .last) e 0) 0)
   -- a busy link's room is what is left of it
   pub room : (e : ℕ) → e < 64 → 0 < getD (z .links .at) e 0
       → getD (z .links .room) e 0 + loadAt (net (problemOf d)) (λ s. getD (z .rate) s 0) e ≡ z .den * getD (d .capacity) e 0

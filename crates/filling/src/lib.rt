@@ -1,6 +1,6 @@
 // The direct calculation (01; 001, Figure 1), over one common denominator: the rates fixed so far, and what is left of the links, are whole numbers
 // of parts 1/den. So what a round changes is a multiplication for each link that has a session not yet fixed, where the denominator grows, and a
-// subtraction for each link of a session that it fixes; it reduces no fraction.
+// subtraction for each link of a session that it fixes, which the link remembers if it was the last there; it reduces no fraction.
 ghost use mathlib.Core.Path.{_≡_};
 ghost use Prim.Native.Nat.{ℕ, _*_, _≤_, _<_};
 ghost use lib.Dec.{eqb};
@@ -29,11 +29,13 @@ struct Given {
     pub chosen: u32,
 }
 
-// All rates, rate / den, and what is left of each link: 0 exactly where its capacity is fully used.
+// All rates, rate / den; what is left of each link: 0 exactly where its capacity is fully used; and the session that was fixed last on each link that
+// has one, which has the highest rate there.
 pub struct Fixed {
     pub den: u64,
     pub rate: [u64; 32],
     pub room: [u64; 64],
+    pub last: [u32; 64],
 }
 
 // l, or the share of a link with so much left and so many sessions not yet fixed, where that is smaller; of two equal shares the links of both.
@@ -146,7 +148,8 @@ fn grow(room: &mut [u64; 64], busy: u64, by: u64)
     }
 }
 
-// Session s leaves the link of a path byte, where it is not yet fixed: the share is taken from the link. The busy links after that.
+// Session s leaves the link of a path byte, where it is not yet fixed: the share is taken from the link, which remembers s if nobody is left. The busy
+// links after that.
 fn leave(
     e: u8,
     s: u32,
@@ -155,11 +158,12 @@ fn leave(
     room: &mut [u64; 64],
     at: &mut [u32; 64],
     count: &mut [u64; 64],
+    last: &mut [u32; 64],
 ) -> u64
-    requires { ⌜ (s < 32) × Whole (linksOf busy (now room) (now at) (now count))
-        × Leavable (eqb e) s share (linksOf busy (now room) (now at) (now count)) ⌝ }
-    ensures { λ r. ⌜ Leaves (eqb e) s share (linksOf busy (now (room .entry)) (now (at .entry)) (now (count .entry)))
-        (linksOf r (now (room .exit)) (now (at .exit)) (now (count .exit))) ⌝ }
+    requires { ⌜ (s < 32) × Whole (linksOf busy (now room) (now at) (now count) (now last))
+        × Leavable (eqb e) s share (linksOf busy (now room) (now at) (now count) (now last)) ⌝ }
+    ensures { λ r. ⌜ Leaves (eqb e) s share (linksOf busy (now (room .entry)) (now (at .entry)) (now (count .entry)) (now (last .entry)))
+        (linksOf r (now (room .exit)) (now (at .exit)) (now (count .exit)) (now (last .exit))) ⌝ }
 {
     if 64 <= e {
         return busy;
@@ -176,6 +180,7 @@ fn leave(
     room[i] = x - share;
     count[i] = n - 1;
     if others == 0 {
+        last[i] = s;
         return sessions::cut_link(busy, e as u32);
     }
     busy
@@ -190,17 +195,18 @@ fn leave_path(
     room: &mut [u64; 64],
     at: &mut [u32; 64],
     count: &mut [u64; 64],
+    last: &mut [u32; 64],
 ) -> u64
-    requires { ⌜ (s < 32) × Whole (linksOf busy (now room) (now at) (now count))
-        × Leavable (λ e. crossesOf (now path) e s) s share (linksOf busy (now room) (now at) (now count)) ⌝ }
+    requires { ⌜ (s < 32) × Whole (linksOf busy (now room) (now at) (now count) (now last))
+        × Leavable (λ e. crossesOf (now path) e s) s share (linksOf busy (now room) (now at) (now count) (now last)) ⌝ }
     ensures { λ r. ⌜ Leaves (λ e. crossesOf (now (path .entry)) e s) s share
-        (linksOf busy (now (room .entry)) (now (at .entry)) (now (count .entry)))
-        (linksOf r (now (room .exit)) (now (at .exit)) (now (count .exit))) ⌝ }
+        (linksOf busy (now (room .entry)) (now (at .entry)) (now (count .entry)) (now (last .entry)))
+        (linksOf r (now (room .exit)) (now (at .exit)) (now (count .exit)) (now (last .exit))) ⌝ }
 {
     let mut next = busy;
     let from = (s as usize) * 8;
     for h in 0..8usize {
-        next = leave(path[from + h], s, share, next, room, at, count);
+        next = leave(path[from + h], s, share, next, room, at, count, last);
     }
     next
 }
@@ -214,17 +220,18 @@ fn leave_all(
     room: &mut [u64; 64],
     at: &mut [u32; 64],
     count: &mut [u64; 64],
+    last: &mut [u32; 64],
 ) -> u64
-    requires { ⌜ Enough share (linksOf busy (now room) (now at) (now count)) ⌝ }
+    requires { ⌜ Enough share (linksOf busy (now room) (now at) (now count) (now last)) ⌝ }
     ensures { λ r. ⌜ Without (now (path .entry)) chosen share
-        (linksOf busy (now (room .entry)) (now (at .entry)) (now (count .entry)))
-        (linksOf r (now (room .exit)) (now (at .exit)) (now (count .exit))) ⌝ }
+        (linksOf busy (now (room .entry)) (now (at .entry)) (now (count .entry)) (now (last .entry)))
+        (linksOf r (now (room .exit)) (now (at .exit)) (now (count .exit)) (now (last .exit))) ⌝ }
 {
     let mut next = busy;
     let mut left = chosen;
     while left != 0 {
         let s = sessions::next(left);
-        next = leave_path(path, s, share, next, room, at, count);
+        next = leave_path(path, s, share, next, room, at, count, last);
         left = sessions::cut(left, s);
     }
     next
@@ -259,7 +266,7 @@ fn rates_after(rate: &mut [u64; 32], these: u32, l: Given)
     }
 }
 
-fn no_words() -> [u32; 64]
+fn zeros() -> [u32; 64]
     ensures { λ r. ⌜ r ≡ replicate 64 0 ⌝ }
 {
     [0u32; 64]
@@ -337,8 +344,9 @@ pub fn filled(d: Declared) -> Fixed
 {
     let sessions = d.sessions;
     let mut room = d.capacity;
-    let mut at = no_words();
+    let mut at = zeros();
     let mut count = no_counts();
+    let mut last = zeros();
     let mut rate = declarations::no_rates();
     let mut busy = crossing(&d.path, sessions, &mut at);
     counted(busy, &at, &mut count);
@@ -357,7 +365,16 @@ pub fn filled(d: Declared) -> Fixed
         let own = t.own;
         let chosen = own | search::all_at(&d.path, opens, t.links);
         grow(&mut room, busy, by);
-        busy = leave_all(&d.path, chosen, share, busy, &mut room, &mut at, &mut count);
+        busy = leave_all(
+            &d.path,
+            chosen,
+            share,
+            busy,
+            &mut room,
+            &mut at,
+            &mut count,
+            &mut last,
+        );
         opens = opens & !chosen;
         let l = Given {
             room: share,
@@ -371,5 +388,6 @@ pub fn filled(d: Declared) -> Fixed
         den: den,
         rate: rate,
         room: room,
+        last: last,
     }
 }

@@ -7,9 +7,13 @@ use lib.Bits.{bitAnd}
 use lib.ListN.{getD}
 use Rattle.sessions.specs.Set.{cut, has}
 
+-- the byte at hop h of the path of session s: eight for each session
+abbrev pub byteAt : List ℕ → ℕ → ℕ → ℕ
+byteAt path s h = getD path (s * 8 + h) 0
+
 -- one of the eight bytes of the path of s is a link of the set
 abbrev pub Meets : List ℕ → ℕ → ℕ → Type 0
-Meets path links s = (h : ℕ) × (h < 8) × (has (getD path (s * 8 + h) 0) links ≡ 1)
+Meets path links s = (h : ℕ) × (h < 8) × (has (byteAt path s h) links ≡ 1)
 
 -- r is the first session of left that crosses one of the links, or 32 where none does
 pub record FirstAt (path : List ℕ) (left links r : ℕ) : Type 0 where

@@ -1,23 +1,23 @@
 //! The calculation against the direct test of max-min fairness (001, Definition 1): the rates are
-//! feasible, and each session has D or crosses a full link on which nobody has more.
+//! feasible, and each session has D or crosses a fully used link on which nobody has more.
 
 use crate::common::{calculated, link, session, Random};
 
 /// A network as the test knows it, apart from its records.
-struct Network {
-    capacities: Vec<(u8, u32)>,
-    sessions: Vec<Session>,
+pub struct Network {
+    pub capacities: Vec<(u8, u32)>,
+    pub sessions: Vec<Session>,
 }
 
-struct Session {
-    number: u8,
-    access: u32,
-    maximum: u32,
-    path: Vec<u8>,
+pub struct Session {
+    pub number: u8,
+    pub access: u32,
+    pub maximum: u32,
+    pub path: Vec<u8>,
 }
 
 impl Session {
-    fn own_limit(&self) -> u128 {
+    pub fn own_limit(&self) -> u128 {
         match self.maximum {
             0 => u128::from(self.access),
             maximum => u128::from(self.access.min(maximum)),
@@ -26,8 +26,8 @@ impl Session {
 }
 
 impl Network {
-    // The records, links first.
-    fn records(&self) -> Vec<u8> {
+    /// The records, links first.
+    pub fn records(&self) -> Vec<u8> {
         let links = self.capacities.iter();
         let mut bytes: Vec<u8> = links
             .flat_map(|&(number, capacity)| link(number, capacity))
@@ -39,13 +39,13 @@ impl Network {
     }
 }
 
-// All rates over one denominator, so that sums and comparisons are those of whole numbers.
-struct Scaled {
-    unit: u128,
-    rates: Vec<u128>,
+/// All rates over one denominator, so that sums and comparisons are those of whole numbers.
+pub struct Scaled {
+    pub unit: u128,
+    pub rates: Vec<u128>,
 }
 
-fn scaled(network: &Network, nums: &[u64], dens: &[u64]) -> Scaled {
+pub fn scaled(network: &Network, nums: &[u64], dens: &[u64]) -> Scaled {
     let numbers = || network.sessions.iter().map(|one| usize::from(one.number));
     let unit = numbers().fold(1, |unit, number| {
         least_common_multiple(unit, u128::from(dens[number]))
@@ -68,8 +68,8 @@ fn least_common_multiple(a: u128, b: u128) -> u128 {
     a / greatest_common_divisor(a, b) * b
 }
 
-// The rates of the sessions on a link.
-fn rates_on<'a>(
+/// The rates of the sessions on a link.
+pub fn rates_on<'a>(
     network: &'a Network,
     scaled: &'a Scaled,
     link: u8,
@@ -80,24 +80,34 @@ fn rates_on<'a>(
         .map(|(_, &rate)| rate)
 }
 
+/// Whether the sessions on a link use all of its capacity.
+pub fn is_fully_used(network: &Network, scaled: &Scaled, link: u8) -> bool {
+    let declared = network.capacities.iter();
+    let (_, capacity) = declared
+        .copied()
+        .find(|&(number, _)| number == link)
+        .unwrap();
+    rates_on(network, scaled, link).sum::<u128>() == u128::from(capacity) * scaled.unit
+}
+
+/// Whether no session on a link has more than this rate.
+pub fn nobody_has_more(network: &Network, scaled: &Scaled, link: u8, rate: u128) -> bool {
+    rates_on(network, scaled, link).all(|other| other <= rate)
+}
+
 fn check(network: &Network) {
-    let (declared, [nums, dens, places]) =
+    let (declared, [nums, dens, _]) =
         calculated(&network.records()).expect("the records are sound");
     assert_eq!(
         declared.sessions.count_ones() as usize,
         network.sessions.len()
     );
     let scaled = scaled(network, &nums, &dens);
-    let is_full = |link: u8| {
-        let capacity = network
-            .capacities
-            .iter()
-            .find(|(number, _)| *number == link);
-        let capacity = u128::from(capacity.unwrap().1) * scaled.unit;
+    for &(link, capacity) in &network.capacities {
         let used: u128 = rates_on(network, &scaled, link).sum();
+        let capacity = u128::from(capacity) * scaled.unit;
         assert!(used <= capacity, "link {link} carries more than it can");
-        used == capacity
-    };
+    }
     for (one, &rate) in network.sessions.iter().zip(&scaled.rates) {
         let number = usize::from(one.number);
         let own_limit = one.own_limit() * scaled.unit;
@@ -105,16 +115,10 @@ fn check(network: &Network) {
         assert!(dens[number] <= 118_098);
         let common = greatest_common_divisor(u128::from(nums[number]), u128::from(dens[number]));
         assert_eq!(common, 1, "session {number} is not in lowest terms");
-        let full: Vec<u8> = one.path.iter().copied().filter(|&on| is_full(on)).collect();
-        let highest_on = |on: u8| rates_on(network, &scaled, on).all(|other| other <= rate);
-        let restricted = full.iter().any(|&on| highest_on(on));
+        let restricted = one.path.iter().any(|&on| {
+            is_fully_used(network, &scaled, on) && nobody_has_more(network, &scaled, on, rate)
+        });
         assert!(rate == own_limit || restricted, "session {number}");
-        let place = if rate == own_limit {
-            64
-        } else {
-            u64::from(full[0])
-        };
-        assert_eq!(places[number], place, "session {number}");
     }
 }
 
@@ -128,7 +132,7 @@ fn random_limit(random: &mut Random) -> u32 {
     }
 }
 
-fn random_network(random: &mut Random, most_links: usize, most_sessions: usize) -> Network {
+pub fn random_network(random: &mut Random, most_links: usize, most_sessions: usize) -> Network {
     let all: Vec<u8> = (0..64).collect();
     let mut numbers = all.clone();
     let links: Vec<u8> = (0..1 + random.under(most_links))
@@ -211,14 +215,16 @@ fn the_finest_rates() {
     };
     assert_eq!(network.sessions.len(), 32);
     check(&network);
-    let (_, [nums, dens, _]) = calculated(&network.records()).unwrap();
+    let (_, [nums, dens, places]) = calculated(&network.records()).unwrap();
     assert_eq!((nums[0], dens[0]), (1, 2));
+    assert_eq!(places[..2], [0, 0]);
     // (19 - 1/2) / 3 = 37/6.
     assert_eq!((nums[2], dens[2]), (37, 6));
     for number in 1..=10 {
         let place = 3 * number - 1;
         let fineness = 2 * 3_u64.pow(number as u32);
         assert_eq!(dens[place..place + 3], [fineness; 3]);
+        assert_eq!(places[place..place + 3], [number as u64; 3]);
     }
     assert_eq!(dens[31], 118_098);
 }
@@ -239,25 +245,5 @@ fn other_links_wait_for_their_round() {
     let (_, [nums, dens, places]) = calculated(&network.records()).unwrap();
     assert_eq!(nums[..3], [2, 2, 28]);
     assert_eq!(dens[..3], [1, 1, 1]);
-    assert_eq!(places[..3], [0, 0, 1]);
-}
-
-// 01: the binding place is the first full link in path order, also where another one is the
-// session's bottleneck. Links 0 and 1 are both full; session 0 shares link 0 with session 1, which
-// has more, and link 1 with session 2, which has the same.
-#[test]
-fn first_full_link_in_path_order() {
-    let network = Network {
-        capacities: vec![(0, 10), (1, 4)],
-        sessions: vec![
-            open_session(0, &[0, 1]),
-            open_session(1, &[0]),
-            open_session(2, &[1]),
-        ],
-    };
-    check(&network);
-    let (_, [nums, _, places]) = calculated(&network.records()).unwrap();
-    // 4 / 2 = 2 each on link 1, and the 8 left of link 0.
-    assert_eq!(nums[..3], [2, 8, 2]);
     assert_eq!(places[..3], [0, 0, 1]);
 }

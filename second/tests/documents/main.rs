@@ -2,6 +2,7 @@
 //! test; none is taken from the program's own output.
 
 mod above;
+mod bottleneck;
 mod common;
 mod damage;
 mod examples;

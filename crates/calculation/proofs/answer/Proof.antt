@@ -13,16 +13,16 @@ filled-requires : tie.Need-filled-requires
 filled-requires c κs = search needs
 
 find-requires : tie.Need-find-requires
-find-requires c κs = let f = c .before .before .before .before .before .before .before .filled .ensures in (f .fair .feasible .pos, f .small, c .before .before .before .before .before .before .before .before .before .before .before .pre .0 .access)
+find-requires c κs = let f = c .before .before .before .before .before .before .before .before .filled .ensures in (f .fair .feasible .pos, f .small, c .before .before .before .before .before .before .before .before .before .before .before .before .pre .0 .access, f .low)
 
 write-requires : tie.Need-write-requires
-write-requires c κs = c .before .before .before .before .before .before .before .before .before .before .before .before .before .before .before .pre .1
+write-requires c κs = c .before .before .before .before .before .before .before .before .before .before .before .before .before .before .before .before .pre .1
 
 write-requires-2 : tie.Need-write-requires-2
-write-requires-2 c κs = c .before .before .before .before .before .before .before .before .before .before .before .before .before .before .before .before .before .before .before .before .before .pre .2
+write-requires-2 c κs = c .before .before .before .before .before .before .before .before .before .before .before .before .before .before .before .before .before .before .before .before .before .before .pre .2
 
 write-requires-3 : tie.Need-write-requires-3
-write-requires-3 c κs = c .before .before .before .before .before .before .before .before .before .before .before .before .before .before .before .before .before .before .before .before .before .before .before .before .before .before .before .pre .3
+write-requires-3 c κs = c .before .before .before .before .before .before .before .before .before .before .before .before .before .before .before .before .before .before .before .before .before .before .before .before .before .before .before .before .pre .3
 
 same-length : tie.Need-same-length
 same-length c = search needs
@@ -36,9 +36,9 @@ same-length-3 c = search needs
 returns : tie.Need-returns
 unfolding doneOf
 returns c =
-    let d = c .before .before .before .before .before .before .before .before .before .before .before .before .before .before .before .before .before .before .before .before .before .before .before .before .before .before .before .before .before .before .args .t1 in
-    let z = c .before .before .before .before .before .before .before .before .before .before .before .before .before .before .before .before .before .before .before .before .before .before .before .before .before .before .filled .result in
-    let f = c .before .before .before .before .before .before .before .before .before .before .before .before .before .before .before .before .before .before .before .before .before .before .before .before .before .before .filled .ensures in
+    let d = c .before .before .before .before .before .before .before .before .before .before .before .before .before .before .before .before .before .before .before .before .before .before .before .before .before .before .before .before .before .before .before .args .t1 in
+    let z = c .before .before .before .before .before .before .before .before .before .before .before .before .before .before .before .before .before .before .before .before .before .before .before .before .before .before .before .filled .result in
+    let f = c .before .before .before .before .before .before .before .before .before .before .before .before .before .before .before .before .before .before .before .before .before .before .before .before .before .before .before .filled .ensures in
     let v = c .before .before .before .before .before .before .before .before .before .before .before .before .before .before .before .before .before .before .find .result in
     let g = c .before .before .before .before .before .before .before .before .before .before .before .before .before .before .before .before .before .before .find .ensures in (
       refl,

@@ -12,7 +12,7 @@ use Rattle.declarations.specs.declared.Declarations.{Declarations}
 use Rattle.filling.specs.Lines.{Ranges}
 use Rattle.calculation.specs.Calculating.{Outcome, saidOf, afterRecords, calculateOf, doneOf, refusing}
 use Rattle.calculation.specs.declared.Calculated.{Calculated}
-use Rattle.calculation.proofs.Outcomes.{by-records, ordered-of, ranges-of, short-first, short-second, short-third, too-long}
+use Rattle.calculation.proofs.Outcomes.{binds-of, by-records, ordered-of, ranges-of, short-first, short-second, short-third, too-long}
 use Rattle.calculation.proofs.calculate.Statement.{statement}
 use Rattle.calculation.proofs.calculate.Tie as tie
 
@@ -34,7 +34,7 @@ returns c =
     let d = now (a .dens) in
     let p = now (a .places) in
     let e = short-first s n d p (c .if1 .taken) in
-    (told s n d p e, (ap (λ (o : Outcome). saidOf (o .answer)) (sym e), omega arith))
+    (told s n d p e, (ap (λ (o : Outcome). saidOf (o .answer)) (sym e), (omega arith, omega arith)))
 
 returns-2 : tie.Need-returns-2
 returns-2 c =
@@ -44,7 +44,7 @@ returns-2 c =
     let d = now (a .dens) in
     let p = now (a .places) in
     let e = short-second s n d p (c .before .if1 .left) (c .if2 .taken) in
-    (told s n d p e, (ap (λ (o : Outcome). saidOf (o .answer)) (sym e), omega arith))
+    (told s n d p e, (ap (λ (o : Outcome). saidOf (o .answer)) (sym e), (omega arith, omega arith)))
 
 returns-3 : tie.Need-returns-3
 returns-3 c =
@@ -54,7 +54,7 @@ returns-3 c =
     let d = now (a .dens) in
     let p = now (a .places) in
     let e = short-third s n d p (c .before .before .if1 .left) (c .before .if2 .left) (c .if3 .taken) in
-    (told s n d p e, (ap (λ (o : Outcome). saidOf (o .answer)) (sym e), omega arith))
+    (told s n d p e, (ap (λ (o : Outcome). saidOf (o .answer)) (sym e), (omega arith, omega arith)))
 
 returns-4 : tie.Need-returns-4
 returns-4 c =
@@ -64,7 +64,7 @@ returns-4 c =
     let d = now (a .dens) in
     let p = now (a .places) in
     let e = too-long s n d p (c .before .before .before .if1 .left) (c .before .before .if2 .left) (c .before .if3 .left) (c .if4 .taken) in
-    (told s n d p e, (ap (λ (o : Outcome). saidOf (o .answer)) (sym e), omega arith))
+    (told s n d p e, (ap (λ (o : Outcome). saidOf (o .answer)) (sym e), (omega arith, omega arith)))
 
 declare-all-requires : tie.Need-declare-all-requires
 declare-all-requires c κs = search needs
@@ -92,7 +92,7 @@ returns-5 c =
     let p = now (a .places) in
     let e = by-records s n d p (c .before .before .before .before .before .before .before .if1 .left) (c .before .before .before .before .before .before .if2 .left) (c .before .before .before .before .before .if3 .left) (c .before .before .before .before .if4 .left)
     ∙ ap (λ (x : End). afterRecords x (declarationsOf s .declared) n d p) (sym (ap (λ (x : Declarations). x .end) (c .before .before .before .declare-all .ensures .0)) ∙ c .before .end .given .1) in
-    (told s n d p e, (ap (λ (o : Outcome). saidOf (o .answer)) (sym e), omega arith))
+    (told s n d p e, (ap (λ (o : Outcome). saidOf (o .answer)) (sym e), (omega arith, omega arith)))
 
 same-length : tie.Need-same-length
 same-length c = search needs
@@ -118,7 +118,8 @@ returns-6 c =
     let x = t .0 ∙ ap (λ (z : Outcome). z .answer) o in
     let y = t .1 ∙ ap (λ (z : Outcome). z .nums) o in
     let w = t .2 ∙ ap (λ (z : Outcome). z .dens) o in
-    ((x, y, w, t .3 ∙ ap (λ (z : Outcome). z .places) o), (ap saidOf x, ordered-of s n d p _ _ _ x y w))
+    let v = t .3 ∙ ap (λ (z : Outcome). z .places) o in
+    ((x, y, w, v), (ap saidOf x, (ordered-of s n d p _ _ _ x y w, binds-of s n d p _ _ _ _ x y w v)))
 
 pub calculate-spec : {M : Type 1} → statement M
 calculate-spec =

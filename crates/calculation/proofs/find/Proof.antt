@@ -12,20 +12,20 @@ use Rattle.sessions.specs.Set.{cut}
 use Rattle.sessions.proofs.Walks.{next-below, next-less}
 use Rattle.declarations.specs.Declaring.{ownLimitOf}
 use Rattle.declarations.proofs.OwnLimit.{own-limit-le}
-use Rattle.calculation.specs.Binding.{bindingByRoom}
+use Rattle.calculation.specs.Binding.{bindingByLast}
 use Rattle.calculation.proofs.Upto.{Upto, upto-all, upto-none, upto-turn}
 use Rattle.calculation.proofs.find.Statement.{statement}
 use Rattle.calculation.proofs.find.Tie as tie
 
 abbrev Inv-loop : tie.InvT-loop
-Inv-loop these access maximum path den rate room out₀ left₀ out left =
+Inv-loop these access maximum path den rates room last out₀ left₀ out left =
     (left < 2 ^ 32)
-    × Upto (λ t. (lowestOf (getD rate t 0) den) .num) these left (out .nums)
-    × Upto (λ t. (lowestOf (getD rate t 0) den) .den) these left (out .dens)
-    × Upto (λ t. bindingByRoom path room (getD rate t 0) (den * ownLimitOf (getD access t 0) (getD maximum t 0)) t) these left (out .places)
+    × Upto (λ t. (lowestOf (getD rates t 0) den) .num) these left (out .nums)
+    × Upto (λ t. (lowestOf (getD rates t 0) den) .den) these left (out .dens)
+    × Upto (λ t. bindingByLast path rates room last (den * ownLimitOf (getD access t 0) (getD maximum t 0)) t) these left (out .places)
 
 abbrev μ-loop : tie.MeasureT-loop
-μ-loop these access maximum path den rate room out₀ left₀ out left = left
+μ-loop these access maximum path den rates room last out₀ left₀ out left = left
 
 -- the next member is below 32, and less is left
 below : (c : tie.After-next Inv-loop μ-loop) → c .next .result < 32
@@ -51,11 +51,11 @@ next-requires c κs = tt
 cast-i : tie.Need-cast-i Inv-loop μ-loop
 cast-i c = omega (arith, below c)
 
-mul-x : tie.Need-mul-x Inv-loop μ-loop
-mul-x c = omega (arith, below c)
+mul-lowest : tie.Need-mul-lowest Inv-loop μ-loop
+mul-lowest c = omega (arith, below c)
 
-element-copy-out-x : tie.Need-element-copy-out-x Inv-loop μ-loop
-element-copy-out-x c = below c
+element-copy-out-lowest : tie.Need-element-copy-out-lowest Inv-loop μ-loop
+element-copy-out-lowest c = below c
 
 lowest-requires : tie.Need-lowest-requires Inv-loop μ-loop
 lowest-requires c κs = c .before .before .before .before .before .pre .0
@@ -83,7 +83,7 @@ mul-binding c =
     omega (arith, mul-le-mul (p .1) le)
 
 binding-requires : tie.Need-binding-requires Inv-loop μ-loop
-binding-requires c κs = below (c .before .before .before .before .before)
+binding-requires c κs = (below (c .before .before .before .before .before), c .before .before .before .before .before .before .before .before .before .pre .3)
 
 mul-out : tie.Need-mul-out Inv-loop μ-loop
 mul-out c = omega (arith, below (c .before .before .before .before .before .before))
@@ -117,7 +117,7 @@ loop-again c =
     let h = below (c .before .before .before .before .before .before .before) in
     let place =
     c .before .binding .ensures
-    ∙ ap (λ (v : ℕ). bindingByRoom (now (a .path)) (now (a .room)) (getD (now (a .rate)) t 0) (a .den * v) t) (c .before .before .own-limit .ensures) in (
+    ∙ ap (λ (v : ℕ). bindingByLast (now (a .path)) (now (a .rates)) (now (a .room)) (now (a .last)) (a .den * v) t) (c .before .before .own-limit .ensures) in (
       omega (arith, less c),
       upto-turn _ _ _ _ _ _ _ h (ap (λ (r : Rate). r .num) (c .before .before .before .before .before .lowest .ensures)) (c .cut .ensures) (l .inv .1),
       upto-turn _ _ _ _ _ _ _ h (ap (λ (r : Rate). r .den) (c .before .before .before .before .before .lowest .ensures)) (c .cut .ensures) (l .inv .2),
@@ -140,8 +140,8 @@ find-spec =
     loop-holds
     next-requires
     cast-i
-    mul-x
-    element-copy-out-x
+    mul-lowest
+    element-copy-out-lowest
     lowest-requires
     mul-own-limit
     element-copy-out-own-limit

@@ -2,7 +2,7 @@
 -- Assumes nothing.
 use denote.Ref.{now}
 use Rattle.calculation.specs.Calculating.{calculateOf}
-use Rattle.exports.proofs.Reported.{calculation-reported, fair-where-taken}
+use Rattle.exports.proofs.Reported.{binds-where-taken, calculation-reported, fair-where-taken}
 use borrow.Author.Needs.{needs}
 use Rattle.exports.proofs.umbraconga_calculate.Statement.{statement}
 use Rattle.exports.proofs.umbraconga_calculate.Tie as tie
@@ -28,7 +28,10 @@ returns c =
     let q = c .before .before .before .before .before .before .before .calculate .ensures in
     let e = c .calculation-report .ensures in
     let o = calculateOf (now (a .records)) (now (a .nums)) (now (a .dens)) (now (a .places)) in
-    ((calculation-reported _ _ o (q .0 .0) e, q .0 .1, q .0 .2, q .0 .3), fair-where-taken _ _ _ _ (c .before .before .before .before .before .before .before .calculate .result) e (q .1 .1))
+    let r = c .before .before .before .before .before .before .before .calculate .result in (
+      (calculation-reported _ _ o (q .0 .0) e, q .0 .1, q .0 .2, q .0 .3),
+      (fair-where-taken _ _ _ _ r e (q .1 .1 .0), binds-where-taken _ _ _ _ _ r e (q .1 .1 .1)),
+    )
 
 pub umbraconga-calculate-spec : {M : Type 1} → statement M
 umbraconga-calculate-spec =

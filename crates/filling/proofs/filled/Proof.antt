@@ -21,18 +21,18 @@ use Rattle.filling.proofs.filled.Statement.{statement}
 use Rattle.filling.proofs.filled.Tie as tie
 
 abbrev Inv-loop : tie.InvT-loop
-Inv-loop d sessions room₀ at₀ count₀ rate₀ busy₀ den₀ opens₀ room at count rate busy den opens =
-    Running d (fillOf den opens (linksOf busy room at count) rate)
+Inv-loop d sessions room₀ at₀ count₀ last₀ rate₀ busy₀ den₀ opens₀ room at count last rate busy den opens =
+    Running d (fillOf den opens (linksOf busy room at count last) rate)
 
 abbrev μ-loop : tie.MeasureT-loop
-μ-loop d sessions room₀ at₀ count₀ rate₀ busy₀ den₀ opens₀ room at count rate busy den opens = ones opens
+μ-loop d sessions room₀ at₀ count₀ last₀ rate₀ busy₀ den₀ opens₀ room at count last rate busy den opens = ones opens
 
 -- the lines, and how far the rounds are
 abbrev lines : tie.After-all-at Inv-loop μ-loop → Declared
-lines c = c .before .before .before .before .before .before .before .before .before .before .before .before .before .before .before .before .before .before .before .before .before .before .before .args .t1
+lines c = c .before .before .before .before .before .before .before .before .before .before .before .before .before .before .before .before .before .before .before .before .before .before .before .before .args .t1
 
 abbrev state : tie.After-all-at Inv-loop μ-loop → Fill
-state c = let z = c .before .before .before .before .before .before .before .before .before .before .before .loop in fillOf (z .den) (z .opens) (linksOf (z .busy) (z .room) (z .at) (z .count)) (z .rate)
+state c = let z = c .before .before .before .before .before .before .before .before .before .before .before .loop in fillOf (z .den) (z .opens) (linksOf (z .busy) (z .room) (z .at) (z .count) (z .last)) (z .rate)
 
 abbrev given : tie.After-all-at Inv-loop μ-loop → Given
 given c =
@@ -64,37 +64,40 @@ fits c =
 some-open : (c : tie.After-all-at Inv-loop μ-loop) → 0 < state c .opens
 some-open c = omega arith
 
-no-words-requires : tie.Need-no-words-requires Inv-loop μ-loop
-no-words-requires c κs = search needs
+zeros-requires : tie.Need-zeros-requires Inv-loop μ-loop
+zeros-requires c κs = search needs
 
 no-counts-requires : tie.Need-no-counts-requires Inv-loop μ-loop
 no-counts-requires c κs = search needs
+
+zeros-requires-2 : tie.Need-zeros-requires-2 Inv-loop μ-loop
+zeros-requires-2 c κs = search needs
 
 no-rates-requires : tie.Need-no-rates-requires Inv-loop μ-loop
 no-rates-requires c κs = search needs
 
 crossing-requires : tie.Need-crossing-requires Inv-loop μ-loop
-crossing-requires c κs = c .before .before .before .before .before .no-words .ensures
+crossing-requires c κs = c .before .before .before .before .before .before .zeros .ensures
 
 counted-requires : tie.Need-counted-requires Inv-loop μ-loop
-counted-requires c κs = let x = c .before .before .crossing .ensures in (x .busy, c .before .before .before .before .before .before .before .no-counts .ensures, x .small)
+counted-requires c κs = let x = c .before .before .crossing .ensures in (x .busy, c .before .before .before .before .before .before .before .before .no-counts .ensures, x .small)
 
 loop-holds : tie.Need-loop-holds Inv-loop μ-loop
 loop-holds c =
-    let o = c .before .before .before .before .before .before .before .before .before .before .before in
+    let o = c .before .before .before .before .before .before .before .before .before .before .before .before in
     let d = o .args .t1 in
     let small : d .sessions < 4294967296 = omega arith in
     let long : length (d .capacity) ≡ 64 = search needs in
     let n = c .counted .ensures in
-    start-running d (o .pre) small long _ _ _ _ (c .before .before .before .crossing .ensures) (n .0) (n .1) (c .before .before .before .before .before .before .before .no-rates .ensures)
+    start-running d (o .pre) small long _ _ _ _ _ (c .before .before .before .crossing .ensures) (n .0) (n .1) (c .before .before .before .before .before .before .before .before .zeros2 .ensures) (c .before .before .before .before .before .before .before .no-rates .ensures)
 
 least-link-requires : tie.Need-least-link-requires Inv-loop μ-loop
-least-link-requires c κs = shares-fit (c .before .before .before .before .before .before .before .before .before .before .before .before .before .before .before .args .t1) _ (c .before .before .before .loop .inv)
+least-link-requires c κs = shares-fit (c .before .before .before .before .before .before .before .before .before .before .before .before .before .before .before .before .args .t1) _ (c .before .before .before .loop .inv)
 
 least-own-requires : tie.Need-least-own-requires Inv-loop μ-loop
 least-own-requires c κs =
     let run = c .before .before .before .before .before .before .before .loop .inv in
-    (c .before .before .before .least-link .ensures .fits, den-before (c .before .before .before .before .before .before .before .before .before .before .before .before .before .before .before .before .before .before .before .args .t1) _ run, run .ranges .access)
+    (c .before .before .before .least-link .ensures .fits, den-before (c .before .before .before .before .before .before .before .before .before .before .before .before .before .before .before .before .before .before .before .before .args .t1) _ run, run .ranges .access)
 
 all-at-requires : tie.Need-all-at-requires Inv-loop μ-loop
 all-at-requires c κs = search needs
@@ -105,11 +108,11 @@ grow-requires c κs =
     (c .before .before .before .before .least-own .ensures .fits .count, run .whole .rooms, run .links .room)
 
 leave-all-requires : tie.Need-leave-all-requires Inv-loop μ-loop
-leave-all-requires c κs = let p = c .before .before .before .before .before .before .before in enough (lines p) (state p) (p .before .before .before .before .before .before .before .before .before .before .before .loop .inv) (given p) (best p) _ (c .before .before .before .before .before .grow .ensures)
+leave-all-requires c κs = let p = c .before .before .before .before .before .before .before .before in enough (lines p) (state p) (p .before .before .before .before .before .before .before .before .before .before .before .loop .inv) (given p) (best p) _ (c .before .before .before .before .before .before .grow .ensures)
 
 rates-after-requires : tie.Need-rates-after-requires Inv-loop μ-loop
 rates-after-requires c κs =
-    let p = c .before .before .before .before .before .before .before .before .before in
+    let p = c .before .before .before .before .before .before .before .before .before .before in
     let run = p .before .before .before .before .before .before .before .before .before .before .before .loop .inv in (
       fits p,
       record {
@@ -121,7 +124,7 @@ rates-after-requires c κs =
 
 mul-den : tie.Need-mul-den Inv-loop μ-loop
 mul-den c =
-    let p = c .before .before .before .before .before .before .before .before .before .before in
+    let p = c .before .before .before .before .before .before .before .before .before .before .before in
     let run = p .before .before .before .before .before .before .before .before .before .before .before .loop .inv in
     let x = c .rates-after .ensures in
     omega (
@@ -132,7 +135,7 @@ mul-den c =
 
 loop-less : tie.Need-loop-less Inv-loop μ-loop
 loop-less c =
-    let p = c .before .before .before .before .before .before .before .before .before .before in
+    let p = c .before .before .before .before .before .before .before .before .before .before .before in
     let run = p .before .before .before .before .before .before .before .before .before .before .before .loop .inv in
     let x = c .rates-after .ensures in
     fewer (lines p) (state p) run (given p) (chosen-lt p) _ (x .long)
@@ -140,18 +143,18 @@ loop-less c =
 
 loop-again : tie.Need-loop-again Inv-loop μ-loop
 loop-again c =
-    let p = c .before .before .before .before .before .before .before .before .before .before in
+    let p = c .before .before .before .before .before .before .before .before .before .before .before in
     let run = p .before .before .before .before .before .before .before .before .before .before .before .loop .inv in
     let x = c .rates-after .ensures in
-    let links = links-after (lines p) (state p) run (given p) (best p) _ (c .before .before .before .before .before .before .before .before .grow .ensures) _ (c .before .before .leave-all .ensures) in
+    let links = links-after (lines p) (state p) run (given p) (best p) _ (c .before .before .before .before .before .before .before .before .before .grow .ensures) _ (c .before .before .leave-all .ensures) in
     running (lines p) (state p) run (given p) (chosen-lt p) _ (x .long)
     (turn (lines p) (state p) run (given p) (best p) (chosen-lt p) (some-open p) _ x) _ links
 
 returns : tie.Need-returns Inv-loop μ-loop
 returns c =
     let z = c .before .loop in
-    let d = c .before .before .before .before .before .before .before .before .before .before .before .before .before .args .t1 in
-    end-filled d (fillOf (z .den) (z .opens) (linksOf (z .busy) (z .room) (z .at) (z .count)) (z .rate)) (z .inv) (omega arith)
+    let d = c .before .before .before .before .before .before .before .before .before .before .before .before .before .before .args .t1 in
+    end-filled d (fillOf (z .den) (z .opens) (linksOf (z .busy) (z .room) (z .at) (z .count) (z .last)) (z .rate)) (z .inv) (omega arith)
 
 pub filled-spec : {M : Type 1} → statement M
 filled-spec =
@@ -159,8 +162,9 @@ filled-spec =
     (tie.spec
     Inv-loop
     μ-loop
-    no-words-requires
+    zeros-requires
     no-counts-requires
+    zeros-requires-2
     no-rates-requires
     crossing-requires
     counted-requires

@@ -12,7 +12,7 @@ use Rattle.sessions.specs.Set.{has}
 use Rattle.sessions.proofs.Members.{is-in, is-out}
 use Rattle.fractions.proofs.Cases.{not-true, not-false}
 use Rattle.filling.specs.State.{linksOf}
-use Rattle.filling.proofs.Leaving.{leaves-one, leaves-out, leaves-skip}
+use Rattle.filling.proofs.LeavingALink.{leaves-one, leaves-out, leaves-skip}
 use Rattle.filling.proofs.leave.Statement.{statement}
 use Rattle.filling.proofs.leave.Tie as tie
 
@@ -27,7 +27,7 @@ enough c = let a = c .before .before .before .before .before .args in c .before 
 returns : tie.Need-returns
 returns c =
     let a = c .before .args in
-    leaves-skip (a .e) (a .s) (a .share) (linksOf (a .busy) (now (a .room)) (now (a .at)) (now (a .count))) (c .if1 .taken)
+    leaves-skip (a .e) (a .s) (a .share) (linksOf (a .busy) (now (a .room)) (now (a .at)) (now (a .count)) (now (a .last))) (c .if1 .taken)
 
 mul-w : tie.Need-mul-w
 mul-w c = search needs
@@ -41,7 +41,7 @@ has-requires c κs = search needs
 returns-2 : tie.Need-returns-2
 returns-2 c =
     let a = c .before .before .before .before .args in
-    leaves-out (a .e) (a .s) (a .share) (linksOf (a .busy) (now (a .room)) (now (a .at)) (now (a .count)))
+    leaves-out (a .e) (a .s) (a .share) (linksOf (a .busy) (now (a .room)) (now (a .at)) (now (a .count)) (now (a .last)))
     (is-out _ _ (sym (c .before .has .ensures) ∙ not-true _ (c .if2 .taken)))
 
 cut-requires : tie.Need-cut-requires
@@ -83,6 +83,12 @@ mul-count c = search needs
 element-write-count : tie.Need-element-write-count
 element-write-count c = search needs
 
+mul-last : tie.Need-mul-last
+mul-last c = search needs
+
+element-write-last : tie.Need-element-write-last
+element-write-last c = search needs
+
 cut-link-requires : tie.Need-cut-link-requires
 cut-link-requires c κs = search needs
 
@@ -90,18 +96,20 @@ returns-3 : tie.Need-returns-3
 returns-3 c =
     let a = c .before .before .before .before .before .before .before .before .before .args in
     let p = c .before .before .before .before in
+    let q = c .before .before .before .before .before .before .before .before .before .pre in
     let e = enough p in
-    leaves-one (a .e) (a .s) (a .share) (linksOf (a .busy) (now (a .room)) (now (a .at)) (now (a .count))) (p .cut .result) _ _ (c .cut-link .result)
-    (c .before .before .before .before .before .before .before .before .before .pre .1) (omega arith) (open-there p) (p .cut .ensures) (omega (arith, e .0)) (omega (arith, e .1))
-    (inl (c .before .if3 .taken, c .cut-link .ensures))
+    leaves-one (a .e) (a .s) (a .share) (linksOf (a .busy) (now (a .room)) (now (a .at)) (now (a .count)) (now (a .last))) (p .cut .result) _ _ (c .cut-link .result)
+    _ (q .1) (omega arith) (q .0) (open-there p) (p .cut .ensures) (omega (arith, e .0)) (omega (arith, e .1))
+    (inl (c .before .if3 .taken, c .cut-link .ensures, refl))
 
 returns-4 : tie.Need-returns-4
 returns-4 c =
     let a = c .before .before .before .before .before .before .before .before .args in
     let p = c .before .before .before in
+    let q = c .before .before .before .before .before .before .before .before .pre in
     let e = enough p in
-    leaves-one (a .e) (a .s) (a .share) (linksOf (a .busy) (now (a .room)) (now (a .at)) (now (a .count))) (p .cut .result) _ _ (a .busy)
-    (c .before .before .before .before .before .before .before .before .pre .1) (omega arith) (open-there p) (p .cut .ensures) (omega (arith, e .0)) (omega (arith, e .1)) (inr refl)
+    leaves-one (a .e) (a .s) (a .share) (linksOf (a .busy) (now (a .room)) (now (a .at)) (now (a .count)) (now (a .last))) (p .cut .result) _ _ (a .busy)
+    _ (q .1) (omega arith) (q .0) (open-there p) (p .cut .ensures) (omega (arith, e .0)) (omega (arith, e .1)) (inr (omega arith, refl, refl))
 
 pub leave-spec : {M : Type 1} → statement M
 leave-spec =
@@ -125,6 +133,8 @@ leave-spec =
     sub-count
     mul-count
     element-write-count
+    mul-last
+    element-write-last
     cut-link-requires
     returns-3
     returns-4)
