@@ -2,8 +2,13 @@
 pub mod Poses
 pub mod DeclaresPoses
 pub mod TableDeclares
+pub mod TableDeclarable
 pub mod SettledLinks
 pub mod SettledEntries
 pub mod SettledRates
 pub mod Calculated
 pub mod Agreement
+pub mod PresentSet
+pub mod LinksLoaded
+pub mod SessionsLoaded
+pub mod RunBack

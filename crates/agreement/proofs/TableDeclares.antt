@@ -4,13 +4,14 @@ use mathlib.Core.Bool.{Bool, cond}
 use mathlib.Core.List.{List}
 use mathlib.Core.Logic.{_⊎_, inl, inr}
 use mathlib.Core.Path.{_≡_, ap, ap₂, _∙_}
-use Prim.Native.Nat.{ℕ, zero, suc, _+_, _*_, _/_, _%_, _≤_, _<_}
+use Prim.Native.Nat.{ℕ, zero, suc, _+_, _*_, _/_, _%_, _^_, _≤_, _<_}
+use native.Mathlib.Nat.{pow-suc}
 use native.Mathlib.Omega.{arith}
 use lib.Dec.{eqb, ltb}
 use lib.ListN.{getD}
 use Rattle.fairness.proofs.Running.{values-at}
 use Rattle.fractions.proofs.Cases.{cases, last}
-use Rattle.sessions.proofs.Members.{has-put-other, has-put-same, has-zero}
+use Rattle.sessions.proofs.Members.{has-put-other, has-put-same, has-zero, put-lt}
 use Rattle.sessions.specs.Set.{has, hasOf, put}
 use Rattle.table.specs.Words.{linkOf, sourceOf}
 use Rattle.agreement.specs.Lines.{Declares, declarationsIn, pathByte, wordOf}
@@ -45,6 +46,14 @@ module _ (test : ℕ → Bool) where
           (λ t. rw (has-put-same n (wordOf n test), t))
           (λ t. rw (word-none n n (omega arith), t)))
 
+  -- no digit is past the numbers
+  word-lt : (n : ℕ) → wordOf n test < 2 ^ n
+  unfolding wordOf
+  word-lt zero = omega arith
+  word-lt (suc n) =
+      let h : wordOf n test < 2 ^ suc n = omega (arith, word-lt n, pow-suc 2 n) in
+      cases (λ (v : ℕ). v < 2 ^ suc n) (test n) (put n (wordOf n test)) (wordOf n test) (λ t. put-lt (suc n) n (wordOf n test) (omega arith) h) (λ t. h)
+
 -- WHAT THE TABLE HOLDS ------------------------------------------------------------------------------------------------
 
 -- the declared links are those with a capacity
@@ -52,8 +61,13 @@ pub table-links : (w : List ℕ) (e : ℕ) → e < 64 → hasOf e (declarationsI
 unfolding declarationsIn
 table-links w e l = word-has (λ e. ltb 0 (linkOf w e .capacity)) 64 e l
 
+-- its words have no digit past the links and sessions
+pub table-words : (w : List ℕ) → (declarationsIn w .links < 2 ^ 64) × (declarationsIn w .sessions < 2 ^ 32)
+unfolding declarationsIn
+table-words w = (word-lt (λ e. ltb 0 (linkOf w e .capacity)) 64, word-lt (λ s. sourceOf w s .active) 32)
+
 -- byte h of session s stands at s * 8 + h, as in a declaration
-table-path : (w : List ℕ) (s h : ℕ) → s < 32 → h < 8 → getD (declarationsIn w .path) (s * 8 + h) 0 ≡ pathByte w s h
+pub table-path : (w : List ℕ) (s h : ℕ) → s < 32 → h < 8 → getD (declarationsIn w .path) (s * 8 + h) 0 ≡ pathByte w s h
 unfolding declarationsIn
 table-path w s h l k =
     let q : (s * 8 + h) / 8 ≡ s = omega arith in

@@ -56,4 +56,4 @@ declare-in-range s d (rec.Deliver n) p h = record { capacity = p .capacity; acce
 pub declarations-in-range : (s : List ℕ) → Bytes s → InRange (declarationsOf s .declared)
 unfolding declarationsOf
 declarations-in-range s bytes =
-    run-keeps InRange call.Calculation (judging s) (declareOf s) s bytes (declare-in-range s) (length s) noneDeclared 0 0 none-in-range
+    run-keeps InRange call.Calculation (judging s) (declareOf s) s bytes (λ z x p o t. declare-in-range s z x p o) (length s) noneDeclared 0 0 none-in-range

@@ -20,7 +20,7 @@ use Rattle.reachable.specs.Reachable.{Reachable, empty, ran}
 module _ (P : List ℕ → Type 0) (keeps : (s w : List ℕ) (x : Record) → RecordOk s x → P w → P (eventOf s w x .words)) where
   run-kept : (w s : List ℕ) → Bytes s → P w → P (runRecordsOf w s .state)
   unfolding runRecordsOf
-  run-kept w s bytes i = run-keeps P call.Machine (judging s) (acting s) s bytes (λ z x o k. keeps s z x k o) (length s) w 0 0 i
+  run-kept w s bytes i = run-keeps P call.Machine (judging s) (acting s) s bytes (λ z x o k t. keeps s z x k o) (length s) w 0 0 i
 
   pub machine-kept : (w s : List ℕ) → Bytes s → P w → P (machineOf w s .state)
   unfolding machineOf

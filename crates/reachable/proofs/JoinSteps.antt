@@ -5,8 +5,8 @@ use mathlib.Core.List.{List, [], _∷_, _++_}
 use mathlib.Core.Path.{_≡_, ap, refl, subst, sym, _∙_}
 use Prim.Native.Nat.{ℕ, _+_, _<_, _≤_}
 use native.Mathlib.Omega.{arith}
-use borrow.Author.Tests.{eqb-false, leb-true, ltb-false, ltb-true}
-use lib.Dec.{eqb, leb, ltb}
+use borrow.Author.Tests.{eqb-false, ltb-false, ltb-true}
+use lib.Dec.{eqb, ltb}
 use lib.ListN.{drop, getD, length}
 use lib.Seq.{getD-drop, getD-take}
 use Rattle.ends.specs.declared.Source.{Source}
@@ -20,7 +20,8 @@ use Rattle.fractions.specs.Fraction.{maxRate, wholeOf}
 use Rattle.links.specs.declared.Place.{Place}
 use Rattle.links.specs.Links.{isIdle}
 use Rattle.records.proofs.Alls.{all-at}
-use Rattle.records.specs.Format.{differ, isNew, linksOk, pathOk, restOk}
+use Rattle.records.proofs.PathBytes.{Path, path-is}
+use Rattle.records.specs.Format.{pathOk}
 use Rattle.records.specs.Limits.{aboveLine}
 use Rattle.soundness.specs.Sound.{Held}
 use Rattle.table.specs.Values.{SourceWithin}
@@ -43,30 +44,6 @@ use Rattle.reachable.proofs.SourceRules.{limit-within}
 use Rattle.reachable.proofs.Unless.{unless-many}
 
 -- THE PATH OF A RECORD ------------------------------------------------------------------------------------------------
-
--- n links from a place of the bytes on: 1 to 8 of them, below 64, none twice
-pub record Path (bytes : List ℕ) (at n : ℕ) : Type 0 where
-  pub some : 0 < n
-  pub most : n ≤ 8
-  pub link : (i : ℕ) → i < n → getD bytes (at + i) 0 < 64
-  pub once : (i j : ℕ) → i < n → j < i → getD bytes (at + j) 0 ≡ getD bytes (at + i) 0 → ⊥
-
-path-is : (bytes : List ℕ) (at n : ℕ) → pathOk bytes at n ≡ true → Path bytes at n
-unfolding pathOk linksOk differ isNew
-path-is bytes at n h =
-    let a = and-both (ltb 0 n) (leb n 8 && (linksOk bytes at n && (differ bytes at n && restOk bytes at n))) h in
-    let b = and-both (leb n 8) (linksOk bytes at n && (differ bytes at n && restOk bytes at n)) (a .1) in
-    let c = and-both (linksOk bytes at n) (differ bytes at n && restOk bytes at n) (b .1) in
-    let d = and-both (differ bytes at n) (restOk bytes at n) (c .1) in
-    record {
-      some = ltb-true 0 n (a .0);
-      most = leb-true n 8 (b .0);
-      link = λ i l. ltb-true (getD bytes (at + i) 0) 64 (all-at n (λ h. ltb (getD bytes (at + h) 0) 64) i (c .0) l);
-      once = λ i j l k.
-          eqb-false (getD bytes (at + j) 0) (getD bytes (at + i) 0)
-          (not-true (eqb (getD bytes (at + j) 0) (getD bytes (at + i) 0))
-          (all-at i (λ g. not (eqb (getD bytes (at + g) 0) (getD bytes (at + i) 0))) j (all-at n (λ h. isNew bytes at h (getD bytes (at + h) 0)) i (d .0) l) k));
-    }
 
 path-declared : (w bytes : List ℕ) (at n : ℕ) → pathDeclaredIn w bytes at n ≡ true → (i : ℕ) → i < n → 0 < linkOf w (getD bytes (at + i) 0) .capacity
 unfolding pathDeclaredIn
@@ -104,6 +81,12 @@ pub record Joined (w : List ℕ) (s : ℕ) (x : Rate) (v : List ℕ) : Type 0 wh
   pub paths : (r : ℕ) → r < 32 → (r ≡ s → ⊥) → pathOf v r ≡ pathOf w r
   pub packets : packetsOf v ≡ packetsOf w ++ theJoin s x ∷ []
   pub join : PacketOk v (theJoin s x)
+
+-- and the source and path of s in it: z, and n links that stand in the bytes
+pub record Route (v : List ℕ) (s : ℕ) (z : Source) (bytes : List ℕ) (at n : ℕ) : Type 0 where
+  pub source : sourceOf v s ≡ z
+  pub hops : hopsOf v s ≡ n
+  pub stop : (j : ℕ) → j < n → stopOf v s j ≡ getD bytes (at + j) 0
 
 -- where an entry of a session that is not active has a Leave to come, it had no entry left
 pub no-entry-left : (w : List ℕ) (s : ℕ) (x : Rate) (v : List ℕ) → Inv w → Joined w s x v → (e : ℕ) → e < 64 → Held (placeOf w e) s → ⊥
@@ -181,6 +164,9 @@ module _ (w : List ℕ) (i : Safe w) (s : ℕ) (ls : s < 32) (bytes : List ℕ) 
       ∙ getD-take n (drop at bytes) j 0 l
       ∙ getD-drop at bytes j 0
 
+  pub route : Route v s z bytes at n
+  route = record { source = joined-source; hops = joined-hops; stop = joined-stop }
+
   packets : packetsOf v ≡ packetsOf w ++ join ∷ []
   packets =
       all .packets
@@ -199,7 +185,7 @@ module _ (w : List ℕ) (i : Safe w) (s : ℕ) (ls : s < 32) (bytes : List ℕ) 
         path .once j k a m (sym (joined-stop k (omega (arith, a, m))) ∙ q ∙ joined-stop j a);
   }
 
-  joined : Joined w s (wholeOf (D z)) v
+  pub joined : Joined w s (wholeOf (D z)) v
   joined = record {
     left = left;
     no-packet = none-left;

@@ -1,5 +1,6 @@
 -- Laws of records. A crate above cites them as Rattle.records.proofs.NAME.
 pub mod Alls
+pub mod PathBytes
 pub mod Somes
 pub mod Bodies
 pub mod TakenKinds

@@ -2,7 +2,7 @@
 -- Assumes nothing.
 use mathlib.Core.Bool.{true}
 use mathlib.Core.List.{List}
-use mathlib.Core.Path.{_≡_, ap, subst}
+use mathlib.Core.Path.{_≡_, ap, refl, subst}
 use Prim.Native.Nat.{ℕ, _+_, _≤_, _<_}
 use native.Mathlib.Omega.{arith}
 use borrow.Author.Tests.{eqb-true, leb-true, ltb-true}
@@ -107,14 +107,28 @@ read-ends c s at =
 pub read-record-ok : (c : Call) (s : List ℕ) (at : ℕ) (x : Record) → Bytes s → readAt c s at ≡ read.Record x → RecordOk s x
 read-record-ok c s at x bytes e = subst (Ok s) e (read-ok c s at bytes)
 
+-- what was read is a record that the judge takes
+abbrev Taking : (Record → Verdict) → Read → Type 0
+Taking judge (read.Record x) = judge x ≡ verdict.Taken
+Taking judge (read.Refused r) = 0 ≤ 0
+
 -- a record that passed the judge was read
-judged-read : (r : Read) (judge : Record → Verdict) (x : Record) → judged r judge ≡ read.Record x → r ≡ read.Record x
+pub judged-read : (r : Read) (judge : Record → Verdict) (x : Record) → judged r judge ≡ read.Record x → r ≡ read.Record x
 judged-read (read.Record y) judge x e = taken (judge y) e
   where
     taken : (v : Verdict) → weighed v y ≡ read.Record x → read.Record y ≡ read.Record x
     taken verdict.Taken q = q
     taken (verdict.Refused r) q = absurd (let z : _≡_ {A = ℕ} 0 1 = cc in omega arith)
 judged-read (read.Refused r) judge x e = absurd (let z : _≡_ {A = ℕ} 0 1 = cc in omega arith)
+
+-- and the judge took it
+pub judged-taken : (r : Read) (judge : Record → Verdict) (x : Record) → judged r judge ≡ read.Record x → judge x ≡ verdict.Taken
+judged-taken (read.Record y) judge x e = taken (judge y) refl e
+  where
+    taken : (v : Verdict) → judge y ≡ v → weighed v y ≡ read.Record x → judge x ≡ verdict.Taken
+    taken verdict.Taken q f = subst (Taking judge) f q
+    taken (verdict.Refused r) q f = absurd (let z : _≡_ {A = ℕ} 0 1 = cc in omega arith)
+judged-taken (read.Refused r) judge x e = absurd (let z : _≡_ {A = ℕ} 0 1 = cc in omega arith)
 
 module _ (c : Call) (s : List ℕ) (at : ℕ) (judge : Record → Verdict) (x : Record) (e : judged (readAt c s at) judge ≡ read.Record x) where
   pub judged-record-ok : Bytes s → RecordOk s x

@@ -17,7 +17,8 @@ use Rattle.records.specs.declared.Read.the-variants as read
 use Rattle.records.specs.declared.Record.{Record}
 use Rattle.records.specs.declared.Refusal.{Refusal}
 use Rattle.records.specs.declared.Verdict.{Verdict}
-use Rattle.records.proofs.ReadRecords.{judged-record-ok}
+use Rattle.records.specs.declared.Verdict.the-variants as verdict
+use Rattle.records.proofs.ReadRecords.{judged-record-ok, judged-taken}
 
 -- TURN BY TURN --------------------------------------------------------------------------------------------------------
 
@@ -55,13 +56,13 @@ module _ {S : Type 0} (P : S → Type 0) where
   after-keeps (read.Refused r) more z n at p h = p
 
   module _ (c : Call) (judge : S → Record → Verdict) (act : S → Record → S) (s : List ℕ) (bytes : Bytes s)
-      (keeps : (z : S) (x : Record) → P z → RecordOk s x → P (act z x)) where
-    -- what every record keeps
+      (keeps : (z : S) (x : Record) → P z → RecordOk s x → judge z x ≡ verdict.Taken → P (act z x)) where
+    -- what every record that is taken keeps
     pub run-keeps : (k : ℕ) (z : S) (n at : ℕ) → P z → P (runFrom c judge act s k z n at .state)
     unfolding runFrom
     run-keeps zero z n at p = p
     run-keeps (suc k) z n at p =
         cond-keeps (ltb at (length s)) _ _
         (after-keeps (judged (readAt c s at) (judge z)) _ z n at p
-        (λ x e. run-keeps k (act z x) (n + 1) (at + sizeAt s at) (keeps z x p (judged-record-ok c s at (judge z) x e bytes))))
+        (λ x e. run-keeps k (act z x) (n + 1) (at + sizeAt s at) (keeps z x p (judged-record-ok c s at (judge z) x e bytes) (judged-taken (readAt c s at) (judge z) x e))))
         p
