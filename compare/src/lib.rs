@@ -4,7 +4,8 @@
 //!
 //! What is compared: of a calculation the answer and all three slices in full (`calculation`); of a
 //! run the report, the words of the table that are in use, the settled question, what every session
-//! was told, and after a refusal all words with those of the records taken before (`pair`). Where
+//! was told, and after a refusal all words with those of the records taken before (`pair`); of the
+//! records written out the answer and the whole slice, and that they are read back (`writing`). Where
 //! both sides say settled, the rates told are those of the calculation (`fair`).
 
 #![forbid(unsafe_code)]
@@ -24,8 +25,10 @@ pub mod loads;
 pub mod nearly;
 pub mod networks;
 pub mod odd;
+pub mod outputs;
 pub mod pair;
 pub mod places;
+pub mod present;
 pub mod purpose;
 pub mod random;
 pub mod recorded;
@@ -36,3 +39,4 @@ pub mod tally;
 pub mod timing;
 pub mod words;
 pub mod world;
+pub mod writing;

@@ -8,6 +8,7 @@ use umbraconga::{Ran, Refused, Table, Told};
 use crate::difference::{same, Difference};
 use crate::tally::Tally;
 use crate::words::{clear_unused, table_of, words_of, zeros, Words, SESSIONS};
+use crate::writing::Output;
 use crate::{fair, frame};
 
 // Numbers that no session has.
@@ -54,11 +55,18 @@ impl Pair {
         &self.taken
     }
 
-    /// Runs records on both tables and compares.
+    /// The records of the table, to be written on both sides.
+    pub fn output(&self) -> Output<'_> {
+        Output::of(&self.ours, &self.second)
+    }
+
+    /// Runs records on both tables and compares, also what is written of the tables after it.
     pub fn run(&mut self, records: &[u8], tally: &mut Tally) -> Result<Ran, Difference> {
         let before = self.ours.clone();
         let compared = self.run_from(&before, records, tally);
-        compared.map_err(|difference| difference.with_table(before.words()))
+        let ran = compared.map_err(|difference| difference.with_table(before.words()))?;
+        self.output().compare_some(tally)?;
+        Ok(ran)
     }
 
     fn run_from(

@@ -18,6 +18,18 @@ impl Random {
         random
     }
 
+    /// A generator that goes by these words, another one where they are others.
+    pub fn of_words(words: &[u64]) -> Random {
+        // Each word times an odd number of its own.
+        let times = |(place, &word): (usize, &u64)| word.wrapping_mul(2 * place as u64 + 1);
+        let mixed = words
+            .iter()
+            .enumerate()
+            .map(times)
+            .fold(0, u64::wrapping_add);
+        Random(mixed)
+    }
+
     /// Any number of 64 bits.
     pub fn number(&mut self) -> u64 {
         self.0 = self.0.wrapping_add(0x9e37_79b9_7f4a_7c15);

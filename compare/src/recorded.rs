@@ -1,5 +1,5 @@
-//! Recorded inputs: the examples of documents 01 and 02 in `examples/` and the further ones in
-//! `compare/vectors/`. Beside each input stands the text that the programs print for it, so that the
+//! Recorded inputs: the examples of documents 01 and 02 and the one for `present` in `examples/`, and the
+//! further ones in `compare/vectors/`. Beside each input stands what the programs print or write for it, so that the
 //! two sides are also held to what both said when it was recorded.
 
 use std::fs;
@@ -11,13 +11,14 @@ use umbraconga::{calculate, Table};
 use crate::calculation::compare_plainly;
 use crate::difference::{same, Difference};
 use crate::pair::Pair;
+use crate::present::written;
 use crate::random::Random;
 use crate::runs::record_ends;
 use crate::tally::Tally;
 
 /// The inputs for the calculation.
 pub fn calculations(random: &mut Random, tally: &mut Tally) -> Result<(), Difference> {
-    for (records, text) in recorded(&["../examples", "vectors"])? {
+    for (records, text) in recorded(&["../examples", "vectors"], "txt")? {
         compare_plainly(&records, random, tally)?;
         let ours = match calculate(&records) {
             Ok(rates) => format!("{rates}\n"),
@@ -30,7 +31,7 @@ pub fn calculations(random: &mut Random, tally: &mut Tally) -> Result<(), Differ
 
 /// The inputs for the machine, in one call and record by record.
 pub fn runs(_: &mut Random, tally: &mut Tally) -> Result<(), Difference> {
-    for (records, text) in recorded(&["../examples/steps", "vectors/steps"])? {
+    for (records, text) in recorded(&["../examples/steps", "vectors/steps"], "txt")? {
         let mut pair = Pair::empty();
         let ran = pair.run(&records, tally)?;
         let mut table = Table::empty();
@@ -45,25 +46,41 @@ pub fn runs(_: &mut Random, tally: &mut Tally) -> Result<(), Difference> {
     Ok(())
 }
 
+/// The inputs for the machine whose tables are then written out.
+pub fn outputs(_: &mut Random, tally: &mut Tally) -> Result<(), Difference> {
+    for (records, bytes) in recorded(&["../examples/present"], "out")? {
+        let mut pair = Pair::empty();
+        pair.run(&records, tally)?;
+        written(&pair, &bytes, tally)?;
+        let second = texts::present(&records);
+        same("the recorded bytes and second's", &records, bytes, second)?;
+        pair.again(&record_ends(pair.taken()), tally)?;
+    }
+    Ok(())
+}
+
 // The text that was recorded is the library's and second's.
-fn same_texts(records: &[u8], text: &str, ours: &str, second: &str) -> Result<(), Difference> {
+fn same_texts(records: &[u8], text: &[u8], ours: &str, second: &str) -> Result<(), Difference> {
+    let text: &str = &String::from_utf8_lossy(text);
     same("the recorded text and the library's", records, ours, text)?;
     same("the recorded text and second's", records, text, second)
 }
 
-// The inputs of these folders, which are named from this package's own, each with its text. That
-// there are none is a difference too: the files are part of the comparison.
-fn recorded(folders: &[&str]) -> Result<Vec<(Vec<u8>, String)>, Difference> {
+// An input, and what the programs print or write for it.
+type Recorded = (Vec<u8>, Vec<u8>);
+
+// The inputs of these folders, which are named from this package's own, each with what stands beside it
+// in the file with this extension. That there are none is a difference too: the files are part of the
+// comparison.
+fn recorded(folders: &[&str], extension: &str) -> Result<Vec<Recorded>, Difference> {
+    let read = |file: &Path| fs::read(file).map_err(|error| unread(file, error));
     let mut all = Vec::new();
     for folder in folders {
         let folder = Path::new(env!("CARGO_MANIFEST_DIR")).join(folder);
         let inputs = inputs(&folder).map_err(|error| unread(&folder, error))?;
         same("inputs in a folder", &[], inputs.is_empty(), false)?;
         for input in inputs {
-            let text = input.with_extension("txt");
-            let records = fs::read(&input).map_err(|error| unread(&input, error))?;
-            let text = fs::read_to_string(&text).map_err(|error| unread(&text, error))?;
-            all.push((records, text));
+            all.push((read(&input)?, read(&input.with_extension(extension))?));
         }
     }
     Ok(all)

@@ -7,8 +7,8 @@ use crate::difference::Difference;
 use crate::random::Random;
 use crate::tally::Tally;
 use crate::{
-    above, bottleneck, built, crowded, damage, faults, nearly, networks, odd, purpose, recorded,
-    runs, slices,
+    above, bottleneck, built, crowded, damage, faults, nearly, networks, odd, present, purpose,
+    recorded, runs, slices,
 };
 
 /// One sort: its name, how many cases it has, and what one case does.
@@ -29,7 +29,7 @@ const fn sort(
 }
 
 /// The cases that are the same in every run of the program.
-pub const FIXED: [Sort; 10] = [
+pub const FIXED: [Sort; 12] = [
     sort("calculations, recorded", 1, recorded::calculations),
     sort(
         "calculations, slices of every length",
@@ -64,10 +64,12 @@ pub const FIXED: [Sort; 10] = [
         1,
         odd::odd_tables,
     ),
+    sort("records written out, recorded", 1, recorded::outputs),
+    sort("records written out, on purpose", 1, present::on_purpose),
 ];
 
 /// The cases that go by a seed.
-pub const RANDOM: [Sort; 16] = [
+pub const RANDOM: [Sort; 17] = [
     sort("calculations, accepted", 35_000, networks::valid),
     sort("calculations, damaged", 35_000, networks::damaged),
     sort("calculations, cut off", 20_000, networks::cut),
@@ -104,6 +106,7 @@ pub const RANDOM: [Sort; 16] = [
     ),
     sort("handed tables, built", 4_000, built::built),
     sort("handed tables, nearly settled", 300, nearly::nearly_settled),
+    sort("records written out, of networks", 1_000, present::networks),
 ];
 
 impl Sort {

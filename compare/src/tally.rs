@@ -1,4 +1,5 @@
-//! How much was compared, and which refusals, clauses of 14 and cases of the binding place were met.
+//! How much was compared, and which refusals, clauses of 14 and cases of the binding place and of the
+//! writer were met.
 
 use std::collections::BTreeMap;
 use std::fmt;
@@ -7,7 +8,7 @@ use second::machine::Fault;
 
 use second::making::record_bytes;
 
-use crate::places::{Met, CASES};
+use crate::{outputs, places};
 
 /// The clauses of refusal 14 in the order of its sentence, and the one that 02, §1 adds.
 const CLAUSES: [Fault; 12] = [
@@ -26,7 +27,7 @@ const CLAUSES: [Fault; 12] = [
 ];
 
 /// The refusals are numbered from 1; in place 0 is counted what was accepted.
-const REFUSALS: usize = 17;
+const REFUSALS: usize = 18;
 
 /// The records in which the machine can meet 16 (02, §1), with their kinds.
 const WITH_MAXIMUM: [(u8, &str); 2] = [(2, "a session record"), (4, "a change")];
@@ -52,11 +53,16 @@ pub struct Tally {
     by_calculation: [u64; REFUSALS],
     /// How often the machine did.
     by_machine: [u64; REFUSALS],
+    /// And how often the writer.
+    by_writer: [u64; REFUSALS],
     /// How often the machine met 16 in each record that has a maximum.
     above: [u64; WITH_MAXIMUM.len()],
     clauses: [u64; CLAUSES.len()],
     /// How many sessions of accepted calculations met each case of the binding place (02, §2).
-    places: Met,
+    places: places::Met,
+    /// How many calls of the writer met each of its cases (02, §3), and how many outputs were read back.
+    outputs: outputs::Met,
+    read_back: u64,
     // The sort under which calls are counted now.
     sort: &'static str,
 }
@@ -75,7 +81,7 @@ impl Tally {
     }
 
     /// The sessions of an accepted calculation that was compared met these cases of the binding place.
-    pub fn places(&mut self, met: Met) {
+    pub fn places(&mut self, met: places::Met) {
         add_each(&mut self.places, &met);
     }
 
@@ -95,6 +101,18 @@ impl Tally {
         for ((kind, _), count) in WITH_MAXIMUM.iter().zip(&mut self.above) {
             *count += u64::from(refusal == 16 && records[place] == *kind);
         }
+    }
+
+    /// A call of the writer was compared, which met these of its cases; 0 where it was accepted.
+    pub fn written(&mut self, refusal: u64, met: outputs::Met) {
+        *self.calls.entry(self.sort).or_default() += 1;
+        self.by_writer[refusal as usize] += 1;
+        add_each(&mut self.outputs, &met);
+    }
+
+    /// What was written of a table was read back.
+    pub fn read_back(&mut self) {
+        self.read_back += 1;
     }
 
     /// A settled table's rates were compared with the calculation.
@@ -122,9 +140,12 @@ impl Tally {
         self.sessions += other.sessions;
         add_each(&mut self.by_calculation, &other.by_calculation);
         add_each(&mut self.by_machine, &other.by_machine);
+        add_each(&mut self.by_writer, &other.by_writer);
         add_each(&mut self.above, &other.above);
         add_each(&mut self.clauses, &other.clauses);
         add_each(&mut self.places, &other.places);
+        add_each(&mut self.outputs, &other.outputs);
+        self.read_back += other.read_back;
     }
 
     /// All calls compared.
@@ -132,40 +153,42 @@ impl Tally {
         self.calls.values().sum()
     }
 
-    /// The refusals, clauses and cases of the binding place that should have been met and were not: the
-    /// calculation can meet 1 to 8, 15 and 16, the machine 1 to 14 and 16, the latter in a session record
-    /// and in a change.
+    /// The refusals, clauses and cases that should have been met and were not: the calculation can meet 1 to
+    /// 8, 15 and 16, the machine 1 to 14 and 16, the latter in a session record and in a change, and the
+    /// writer 14 and 17.
     pub fn not_met(&self) -> Vec<String> {
-        let by_calculation = (1..=8)
-            .chain([15, 16])
-            .filter(|&number| self.by_calculation[number] == 0)
-            .map(|number| format!("refusal {number} of a calculation"));
-        let by_machine = (1..=14)
-            .chain([16])
-            .filter(|&number| self.by_machine[number] == 0)
-            .map(|number| format!("refusal {number} of a run"));
-        let above = WITH_MAXIMUM
-            .iter()
-            .zip(&self.above)
-            .filter(|(_, &count)| count == 0)
-            .map(|((_, record), _)| format!("refusal 16 of {record} in a run"));
-        let clauses = CLAUSES
-            .iter()
-            .zip(&self.clauses)
-            .filter(|(_, &count)| count == 0)
-            .map(|(clause, _)| format!("clause {clause:?} of 14"));
-        let places = CASES
-            .iter()
-            .zip(&self.places)
-            .filter(|(_, &count)| count == 0)
-            .map(|(case, _)| case.to_string());
-        by_calculation
-            .chain(by_machine)
+        let calculation: Vec<usize> = (1..=8).chain([15, 16]).collect();
+        let machine: Vec<usize> = (1..=14).chain([16]).collect();
+        let refusals = [
+            (&calculation[..], &self.by_calculation, "a calculation"),
+            (&machine, &self.by_machine, "a run"),
+            (&[14, 17], &self.by_writer, "the writer"),
+        ];
+        let refusals = refusals.into_iter().flat_map(|(numbers, counts, by)| {
+            let missing = numbers.iter().filter(|&&number| counts[number] == 0);
+            missing.map(move |number| format!("refusal {number} of {by}"))
+        });
+        let above = zeros(&WITH_MAXIMUM, &self.above)
+            .map(|(_, record)| format!("refusal 16 of {record} in a run"));
+        let clauses =
+            zeros(&CLAUSES, &self.clauses).map(|clause| format!("clause {clause:?} of 14"));
+        let places = zeros(&places::CASES, &self.places).map(|case| case.to_string());
+        let outputs = zeros(&outputs::CASES, &self.outputs).map(|case| case.to_string());
+        let read_back = (self.read_back == 0).then(|| "output read back".to_string());
+        refusals
             .chain(above)
             .chain(clauses)
             .chain(places)
+            .chain(outputs)
+            .chain(read_back)
             .collect()
     }
+}
+
+// Those whose count is 0.
+fn zeros<'a, T>(named: &'a [T], counts: &'a [u64]) -> impl Iterator<Item = &'a T> {
+    let pairs = named.iter().zip(counts);
+    pairs.filter(|(_, &count)| count == 0).map(|(one, _)| one)
 }
 
 fn add_each(counts: &mut [u64], others: &[u64]) {
@@ -195,11 +218,12 @@ impl fmt::Display for Tally {
         )?;
         writeln!(
             f,
-            "refusal    1 to 16, by calculations and by runs; 0 is accepted"
+            "refusal    1 to 17, by calculations, by runs and by the writer; 0 is accepted"
         )?;
         for number in 0..REFUSALS {
             let (calculations, runs) = (self.by_calculation[number], self.by_machine[number]);
-            writeln!(f, "{number:>9} {calculations:>9} {runs:>9}")?;
+            let written = self.by_writer[number];
+            writeln!(f, "{number:>9} {calculations:>9} {runs:>9} {written:>9}")?;
         }
         for ((_, record), count) in WITH_MAXIMUM.iter().zip(&self.above) {
             writeln!(
@@ -212,9 +236,34 @@ impl fmt::Display for Tally {
             writeln!(f, "{count:>9} {clause:?}")?;
         }
         writeln!(f, "binding places, by sessions of accepted calculations")?;
-        for (case, count) in CASES.iter().zip(&self.places) {
+        for (case, count) in places::CASES.iter().zip(&self.places) {
             writeln!(f, "{count:>9} {case}")?;
         }
-        Ok(())
+        let written: u64 = self.by_writer.iter().sum();
+        writeln!(f, "records written out, by {written} calls of the writer")?;
+        for (case, count) in outputs::CASES.iter().zip(&self.outputs) {
+            writeln!(f, "{count:>9} {case}")?;
+        }
+        writeln!(f, "{:>9} outputs read back", self.read_back)
+    }
+}
+
+#[cfg(test)]
+mod tests {
+    use super::{outputs, Tally};
+
+    #[test]
+    fn where_nothing_was_met_all_is_missing() {
+        let missing = Tally::default().not_met();
+        // Refusals of a calculation, of a run, of the writer, and 16 of two records; clauses; cases.
+        assert_eq!(missing.len(), 10 + 15 + 2 + 2 + 12 + 5 + 12 + 1);
+        let writer = "refusal 17 of the writer".to_string();
+        assert!(missing.contains(&writer));
+        let mut tally = Tally::default();
+        tally.written(17, [1; outputs::CASES.len()]);
+        tally.read_back();
+        let fewer = tally.not_met();
+        assert!(!fewer.contains(&writer));
+        assert_eq!(fewer.len(), missing.len() - 1 - 12 - 1);
     }
 }

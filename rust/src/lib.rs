@@ -49,3 +49,5 @@ pub const SESSIONS: usize = 32;
 pub const OWN: u64 = 64;
 /// The words of a machine's table.
 pub const TABLE_WORDS: usize = 9153;
+/// The most bytes that the records of a table take: 64 links of 6 bytes and 32 sessions of 19.
+pub const RECORDS_MOST: usize = 992;

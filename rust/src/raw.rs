@@ -39,6 +39,12 @@ mod entry {
         pub fn umbraconga_settled(table: *const Words) -> u64;
         pub fn umbraconga_in_flight(table: *const Words) -> u64;
         pub fn umbraconga_told(table: *const Words, session: u32, report: *mut [u64; 3]);
+        pub fn umbraconga_records(
+            table: *const Words,
+            out: *mut u8,
+            out_len: usize,
+            report: *mut [u64; 3],
+        );
     }
 }
 
@@ -101,5 +107,15 @@ pub fn told(table: &Words, session: u32) -> [u64; 3] {
     // SAFETY: the table has all its words, by its type, and is only read; every number of a session
     // is taken, and the report has the three words that the header asks for.
     unsafe { entry::umbraconga_told(table, session, &mut report) }
+    report
+}
+
+/// The report: the refusal's number or 0, its place, how many bytes were written.
+pub fn records(table: &Words, out: &mut [u8]) -> [u64; 3] {
+    let mut report = [0; 3];
+    // SAFETY: the table has all its words, by its type, and is only read; the slice comes with its
+    // length, which the library tests before it writes, and the report has the three words that the
+    // header asks for.
+    unsafe { entry::umbraconga_records(table, out.as_mut_ptr(), out.len(), &mut report) }
     report
 }

@@ -6,9 +6,9 @@ use std::fmt;
 /// A call was turned away: the number of the reason, and where in the records.
 #[derive(Clone, Copy, Debug, PartialEq, Eq)]
 pub struct Refused {
-    /// 1 to 16, as the README's table lists them.
+    /// 1 to 17, as the README's table lists them.
     pub number: u64,
-    /// The place of the refused record's kind byte, counted from 0; 0 for 1, 14 and 15.
+    /// The place of the refused record's kind byte, counted from 0; 0 for 1, 14, 15 and 17.
     pub place: u64,
 }
 
@@ -37,6 +37,7 @@ impl Refused {
             14 => "the table has a fault",
             15 => "a lent slice has fewer than 32 places",
             16 => "a maximum above the session's access rate",
+            17 => "a lent slice is shorter than the output",
             _ => "a number that the library does not have",
         }
     }

@@ -2,7 +2,7 @@
 
 use std::fmt;
 
-use crate::{raw, Refused, SESSIONS, TABLE_WORDS};
+use crate::{raw, Refused, RECORDS_MOST, SESSIONS, TABLE_WORDS};
 
 /// The machine's table. It owns its words, whose layout is:
 ///
@@ -56,8 +56,9 @@ impl Table {
         table
     }
 
-    /// A table with these words, whatever they are. [`run`](Table::run) and
-    /// [`settled`](Table::settled) refuse 14 where they have a fault.
+    /// A table with these words, whatever they are. [`run`](Table::run), [`settled`](Table::settled),
+    /// [`records`](Table::records) and [`write_records`](Table::write_records) refuse 14 where they
+    /// have a fault.
     pub fn from_words(words: Box<[u64; TABLE_WORDS]>) -> Table {
         Table { words }
     }
@@ -112,6 +113,49 @@ impl Table {
             (0, _) => Told::NotActive,
             (_, 0) => Told::None,
             _ => Told::Rate { num, den },
+        }
+    }
+
+    /// The table's links and active sessions as records, to load them elsewhere: the links (kind 1),
+    /// then the active sessions (kind 2), both by rising number, each session with its access rate,
+    /// its present maximum and its path. Sessions that are leaving are not among them, and packets and
+    /// states are not kept. A table with a fault is refused 14.
+    ///
+    /// ```
+    /// use umbraconga::{calculate, Table};
+    ///
+    /// let mut table = Table::empty();
+    /// let ran = table.run(&[
+    ///     1, 0, 0, 0, 0, 10, // link 0 carries 10 kbit/s
+    ///     2, 0, 0, 0, 0, 100, 0, 0, 0, 0, // session 0: an access line of 100 kbit/s, no maximum
+    ///     1, 0, 255, 255, 255, 255, 255, 255, 255, // and a path of one link, link 0
+    ///     4, 0, 0, 0, 0, 4, // it has a maximum of 4 kbit/s from now on
+    /// ]);
+    /// assert_eq!(ran.refused, None);
+    /// let records = table.records()?;
+    /// assert_eq!(calculate(&records)?.to_string(), "links 1 sessions 1\n0 4/1 own");
+    /// let mut elsewhere = Table::empty();
+    /// assert_eq!(elsewhere.run(&records).refused, None);
+    /// assert_eq!(elsewhere.records()?, records);
+    /// # Ok::<(), umbraconga::Refused>(())
+    /// ```
+    pub fn records(&self) -> Result<Vec<u8>, Refused> {
+        let mut out = vec![0; RECORDS_MOST];
+        let count = self.write_records(&mut out)?;
+        out.truncate(count);
+        Ok(out)
+    }
+
+    /// Writes the records of [`records`](Table::records) to the front of a lent slice, and says how many
+    /// bytes they take; the bytes after them stay as they were, and so do all where the call is
+    /// refused. A table with a fault is refused 14, then a slice that is shorter than the output 17:
+    /// one of the output's length is long enough, and one of [`RECORDS_MOST`] bytes always is.
+    pub fn write_records(&self, out: &mut [u8]) -> Result<usize, Refused> {
+        let [number, place, count] = raw::records(&self.words, out);
+        match Refused::of(number, place) {
+            Some(refused) => Err(refused),
+            // No more than the slice has.
+            None => Ok(count as usize),
         }
     }
 }

@@ -1,9 +1,10 @@
-//! The machine: the examples of documents 01 and 02, refusals, what sessions were told, handed tables.
+//! The machine: the examples of documents 01 and 02, refusals, what sessions were told, handed tables,
+//! and the records of a table.
 
 use std::fs;
 use std::path::Path;
 
-use umbraconga::{Ran, Refused, Table, Told, TABLE_WORDS};
+use umbraconga::{calculate, Ran, Refused, Table, Told, RECORDS_MOST, TABLE_WORDS};
 
 // Link 0 of 10 and session 0 over it, which joins.
 const JOINED: [u8; 25] = [
@@ -154,4 +155,142 @@ fn in_words() {
         debug,
         "Table { settled: Ok(false), in_flight: 1, active: [0], .. }"
     );
+}
+
+// Links 63 and 0, then sessions 31 and 4: declared in falling order, so that the records stand the other
+// way round. 1,000,000 is 0f4240, 66,051 is 010203 and 258 is 0102 (01, "Records"; 02, §3).
+const FALLING: [u8; 50] = [
+    1, 63, 0, 0x0f, 0x42, 0x40, // link 63 of 1,000,000
+    1, 0, 0, 0, 0, 10, // link 0 of 10
+    2, 31, 0, 1, 2, 3, 0, 0, 1, 2, // session 31: access 66,051, maximum 258
+    2, 63, 0, 255, 255, 255, 255, 255, 255, // over 63, then 0
+    2, 4, 0, 0, 0, 100, 0, 0, 0, 0, // session 4: access 100, no maximum
+    1, 0, 255, 255, 255, 255, 255, 255, 255, // over 0
+];
+const RISING: [u8; 50] = [
+    1, 0, 0, 0, 0, 10, // link 0
+    1, 63, 0, 0x0f, 0x42, 0x40, // link 63
+    2, 4, 0, 0, 0, 100, 0, 0, 0, 0, // session 4
+    1, 0, 255, 255, 255, 255, 255, 255, 255, // and its path
+    2, 31, 0, 1, 2, 3, 0, 0, 1, 2, // session 31
+    2, 63, 0, 255, 255, 255, 255, 255, 255, // and its path
+];
+
+fn falling() -> Table {
+    let mut table = Table::empty();
+    assert_eq!(table.run(&FALLING).refused, None);
+    table
+}
+
+#[test]
+fn the_records_of_a_table() {
+    let mut table = falling();
+    assert_eq!(table.records().expect("no fault"), RISING);
+    // Packets and states are not kept.
+    while table.run(&DELIVER_FIRST).refused.is_none() {}
+    assert_eq!(table.settled(), Ok(true));
+    assert_eq!(table.records().expect("no fault"), RISING);
+    // They are taken elsewhere, and come back.
+    let mut elsewhere = Table::empty();
+    assert_eq!(elsewhere.run(&RISING).refused, None);
+    assert_eq!(elsewhere.records().expect("no fault"), RISING);
+    assert_eq!(calculate(&RISING), calculate(&FALLING));
+}
+
+#[test]
+fn the_example_for_present() {
+    let folder = Path::new(env!("CARGO_MANIFEST_DIR")).join("../examples/present");
+    let read = |name: &str| {
+        let file = folder.join(name);
+        fs::read(&file).unwrap_or_else(|error| panic!("{}: {error}", file.display()))
+    };
+    let mut table = Table::empty();
+    assert_eq!(table.run(&read("day.bin")).refused, None);
+    assert_eq!(table.records().expect("no fault"), read("day.out"));
+}
+
+#[test]
+fn a_slice_of_the_outputs_length_or_more() {
+    let table = falling();
+    for length in [50, 51, 69, RECORDS_MOST, 2_000] {
+        let mut out = vec![0xaa; length];
+        assert_eq!(table.write_records(&mut out), Ok(50));
+        assert_eq!(out[..50], RISING);
+        assert_eq!(out[50..], vec![0xaa; length - 50]);
+    }
+}
+
+#[test]
+fn a_slice_that_is_shorter_than_the_output() {
+    let table = falling();
+    let shorter = refused(17, 0).expect("a refusal");
+    for length in 0..50 {
+        let mut out = vec![0xaa; length];
+        assert_eq!(table.write_records(&mut out), Err(shorter));
+        assert_eq!(out, vec![0xaa; length]);
+    }
+    assert_eq!(shorter.reason(), "a lent slice is shorter than the output");
+}
+
+// 14 comes before 17.
+#[test]
+fn a_table_with_a_fault_is_not_written() {
+    let mut words = falling().into_words();
+    // The capacity of link 0.
+    words[0] = 1_000_001;
+    let table = Table::from_words(words);
+    let fault = refused(14, 0).expect("a refusal");
+    for length in [0, 49, 50, RECORDS_MOST] {
+        let mut out = vec![0xaa; length];
+        assert_eq!(table.write_records(&mut out), Err(fault));
+        assert_eq!(out, vec![0xaa; length]);
+    }
+    assert_eq!(table.records(), Err(fault));
+}
+
+// Session 31 leaves; its entries at the links go one after the other.
+#[test]
+fn a_leaving_session_is_not_written() {
+    let mut table = falling();
+    while table.run(&DELIVER_FIRST).refused.is_none() {}
+    assert_eq!(table.run(&[3, 31]).refused, None);
+    while table.in_flight() > 0 {
+        assert_eq!(table.records().expect("no fault"), RISING[..31]);
+        assert_eq!(table.run(&DELIVER_FIRST).refused, None);
+    }
+    assert_eq!(table.records().expect("no fault"), RISING[..31]);
+}
+
+// The access rate of session 0 is 100, and its link carries 10: neither is written for the maximum,
+// nor, where there is no maximum, the access rate.
+#[test]
+fn the_present_maximum_is_written() {
+    let mut table = joined();
+    assert_eq!(table.records().expect("no fault"), JOINED);
+    for maximum in [7, 100, 0, 1] {
+        assert_eq!(table.run(&[4, 0, 0, 0, 0, maximum]).refused, None);
+        let mut changed = JOINED;
+        // The last byte of the maximum.
+        changed[15] = maximum;
+        assert_eq!(table.records().expect("no fault"), changed);
+    }
+}
+
+#[test]
+fn the_fewest_and_the_most_records() {
+    assert_eq!(Table::empty().write_records(&mut []), Ok(0));
+    assert_eq!(Table::empty().records(), Ok(Vec::new()));
+    let mut most = Vec::new();
+    for link in 0..64 {
+        most.extend([1, link, 0, 0, 0, 10]);
+    }
+    for session in 0..32 {
+        most.extend([2, session, 0, 0, 0, 100, 0, 0, 0, 0, 8]);
+        // A path of eight links.
+        most.extend(session..session + 8);
+    }
+    let mut table = Table::empty();
+    assert_eq!(table.run(&most).refused, None);
+    assert_eq!(most.len(), RECORDS_MOST);
+    assert_eq!(table.records(), Ok(most));
 }

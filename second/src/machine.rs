@@ -1,15 +1,18 @@
 //! The packet machine (01, "The tasks" and "What is turned away"): a run of records over a table
-//! that is lent, the settled question, and the test of a table handed in.
+//! that is lent, the settled question, the records written out (02, §3), and the test of a table
+//! handed in.
 
 mod events;
 mod handed;
 mod parts;
 mod settled;
 pub mod table;
+mod writing;
 
 pub use handed::{passes_14, Fault};
 pub use settled::settled;
 pub use table::{Entry, Link, Packet, Source, Table};
+pub use writing::{write, OUTPUT_BYTES};
 
 use crate::records::{read, Kind, Refusal, Refused, INPUT_BYTES};
 

@@ -55,6 +55,8 @@ pub enum Refusal {
     SliceTooShort = 15,
     /// A nonzero maximum above the session's access rate (02, §1).
     MaximumAboveAccess = 16,
+    /// A lent slice is shorter than the output (02, §3).
+    ShorterThanOutput = 17,
 }
 
 impl Refusal {
@@ -72,11 +74,11 @@ impl Refusal {
     }
 }
 
-/// What a refused call returns: the number, and the place of the record's kind byte (0 for 1, 14
-/// and 15).
+/// What a refused call returns: the number, and the place of the record's kind byte (0 for 1, 14,
+/// 15 and 17).
 #[derive(Clone, Copy, Debug, PartialEq, Eq)]
 pub struct Refused {
-    /// 1 to 16.
+    /// 1 to 17.
     pub number: u64,
     /// Counted in bytes from the start of the input.
     pub place: u64,

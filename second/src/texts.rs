@@ -1,7 +1,8 @@
-//! The texts of the two programs (01, "Examples"), each line ended by byte 10.
+//! What the programs write: the texts of `shares` and `steps` (01, "Examples"), each line ended by
+//! byte 10, and the records of `present` (02, §3).
 
 use crate::calculation::calculate;
-use crate::machine::{run, settled, Source, Table};
+use crate::machine::{run, settled, write, Source, Table, OUTPUT_BYTES};
 use crate::records::{Refused, OWN, SESSIONS};
 
 /// What `shares` prints: the counts and one line for each declared session, or only the refusal.
@@ -41,6 +42,17 @@ pub fn steps(input: &[u8]) -> String {
         text += &format!("{session} {}\n", told_words(source));
     }
     text + &ran.refused.map(refusal_line).unwrap_or_default()
+}
+
+/// What `present` writes: the records of the links and active sessions in the table that stays, which
+/// after a refusal is the one before the refused record.
+pub fn present(input: &[u8]) -> Vec<u8> {
+    let mut table = Table::empty();
+    run(&mut table, input);
+    let mut output = [0; OUTPUT_BYTES];
+    let count = write(&table, &mut output)
+        .expect("a table reached from the empty one passes 14, and no output is longer");
+    output[..count as usize].to_vec()
 }
 
 // "own" stands alone.

@@ -1,7 +1,8 @@
 //! Compares the proved library with the second implementation on recorded, built and random inputs.
 //! The random ones are made from two seeds: one that is always the same, and one from the clock, which
 //! is printed and can be given on the command line instead. Prints what was compared and met; exits
-//! with 1 where the sides differ, or a refusal or a case of the binding place was never met.
+//! with 1 where the sides differ, or a refusal or a case of the binding place or of the writer was never
+//! met.
 
 use std::env;
 use std::process::ExitCode;

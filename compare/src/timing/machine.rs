@@ -1,11 +1,11 @@
-//! The machine's rows: deliveries, the test of a table that is handed in, and the settled question;
-//! and how many packets are delivered until a table is settled.
+//! The machine's rows: deliveries, the test of a table that is handed in, the settled question and
+//! the records written out; and how many packets are delivered until a table is settled.
 
 use std::hint::black_box;
 use std::time::Duration;
 
-use second::machine::{run, settled, Table as Other};
-use umbraconga::Table;
+use second::machine::{run, settled, write, Table as Other};
+use umbraconga::{Table, RECORDS_MOST};
 
 use super::beside::Row;
 use super::markdown::{count, table};
@@ -110,6 +110,8 @@ pub fn measure(loads: &Loads) -> Result<Vec<Row>, String> {
         test_of_14("run of no records, full table of whole rates", whole)?,
         settled_question("settled, P6's table", p6)?,
         settled_question("settled, full table", full)?,
+        written("records written, P6's table", p6)?,
+        written("records written, full table", full)?,
     ])
 }
 
@@ -181,6 +183,17 @@ fn settled_question(name: &'static str, load: &Load) -> Result<Row, String> {
         name,
         || assert_eq!(black_box(&load.table).settled(), Ok(true)),
         || assert_eq!(settled(black_box(&load.other)), Ok(true)),
+    )
+}
+
+// The records of the table, into slices that are always long enough.
+fn written(name: &'static str, load: &Load) -> Result<Row, String> {
+    let mut out = [0; RECORDS_MOST];
+    let mut other = [0; RECORDS_MOST];
+    one_by_one(
+        name,
+        || assert!(black_box(&load.table).write_records(&mut out).is_ok()),
+        || assert!(write(black_box(&load.other), &mut other).is_ok()),
     )
 }
 

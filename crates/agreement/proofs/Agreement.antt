@@ -24,13 +24,13 @@ use Rattle.declarations.specs.Declaring.{declarationsOf}
 use Rattle.declarations.specs.declared.Declared.{Declared}
 use Rattle.table.specs.Words.{emptyWords, sourceOf}
 use Rattle.agreement.specs.Agrees.{Agrees, HasRate, calculatedRate, writtenRate}
-use Rattle.agreement.specs.Lines.{Declares, declarationsIn}
+use Rattle.present_set.specs.Held.{Declares, declarationsIn}
 use Rattle.agreement.specs.Needed.{Needed}
 use Rattle.agreement.proofs.Calculated.{calculate-writes, same-as-calculated}
 use Rattle.agreement.proofs.DeclaresPoses.{declares-poses}
 use Rattle.agreement.proofs.SettledEntries.{conditions-needed, settled-links, settled-told}
 use Rattle.agreement.proofs.SettledRates.{settled-answer}
-use Rattle.agreement.proofs.TableDeclares.{table-declares}
+use Rattle.present_set.proofs.TableDeclares.{table-declares}
 
 -- the answer is yes only where the test of settled passes
 yes-settled : (p q : Bool) → cond p (cond q settled.Yes settled.No) (settled.Refused refusal.BadTable 0) ≡ settled.Yes → q ≡ true

@@ -21,7 +21,7 @@ use Rattle.declarations.specs.declared.Declared.{Declared}
 use Rattle.sessions.specs.Set.{has, hasOf}
 use Rattle.table.specs.Words.{sourceOf}
 use Rattle.agreement.specs.Agrees.{calculatedRate, writtenRate}
-use Rattle.agreement.specs.Lines.{Declares}
+use Rattle.present_set.specs.Held.{Declares}
 
 -- the definition's results are Figure 1 in lowest terms
 pub results-are : (d : Declared) (s : ℕ) → s < 32 → calculatedRate d s ≡ figure1Rate (problemOf d) s

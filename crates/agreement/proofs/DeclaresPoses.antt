@@ -15,7 +15,7 @@ use Rattle.declarations.specs.Declaring.{ownLimitOf}
 use Rattle.declarations.specs.declared.Declared.{Declared}
 use Rattle.table.proofs.InRange.{hops-most}
 use Rattle.table.specs.Words.{hopsOf}
-use Rattle.agreement.specs.Lines.{Declares, pathByte}
+use Rattle.present_set.specs.Held.{Declares, pathByte}
 use Rattle.agreement.proofs.Poses.{Poses}
 
 -- a byte that is a link's number is a place of the path: 255 is no link

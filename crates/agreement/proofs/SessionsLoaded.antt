@@ -1,53 +1,41 @@
 -- And then its session records: each session joins, and the table has what is its own.
 -- Assumes nothing.
-use mathlib.Core.Bool.{false, not, true}
-use mathlib.Core.List.{List, [], _∷_, _++_}
+use mathlib.Core.Bool.{false, true}
+use mathlib.Core.List.{List, _++_}
 use mathlib.Core.Logic.{_⊎_, inl, inr}
 use mathlib.Core.Path.{_≡_, ap, refl, subst, sym, _∙_}
-use Prim.Native.Nat.{ℕ, suc, _+_, _-_, _*_, _<_, _≤_}
+use Prim.Native.Nat.{ℕ, suc, _+_, _*_, _<_, _≤_}
 use native.Mathlib.Omega.{arith}
-use borrow.Author.Tests.{eq-eqb, le-ltb, leb-true, lt-ltb, ltb-false, ltb-true, ne-eqb}
-use lib.Dec.{leb, ltb}
 use lib.ListN.{getD, length, length-append}
-use Rattle.fractions.specs.Fraction.{wholeOf}
-use Rattle.fractions.proofs.Cases.{and-both, last}
-use Rattle.fractions.proofs.Ranges.{whole-within}
+use Rattle.fractions.proofs.Cases.{last}
 use Rattle.fairness.specs.Figure1.{values}
 use Rattle.sessions.specs.Set.{has, hasOf}
-use Rattle.sessions.proofs.Members.{is-in, is-out}
+use Rattle.sessions.proofs.Members.{in-is, is-in, member-below}
 use Rattle.records.specs.Format.{RecordOk, pathOk}
-use Rattle.records.specs.Limits.{aboveLine}
 use Rattle.records.specs.declared.Call.the-variants as call
 use Rattle.records.specs.declared.Record.the-variants as rec
-use Rattle.records.proofs.Alls.{all-at, all-below}
-use Rattle.records.proofs.PathBytes.{path-is}
+use Rattle.records.proofs.PathBytes.{path-is, path-same}
+use Rattle.records.proofs.Rates.{rate-is}
 use Rattle.search.specs.Crossing.{byteAt}
-use Rattle.declarations.specs.Declaring.{pathDeclared}
 use Rattle.declarations.specs.declared.Declared.{Declared}
+use Rattle.declarations.proofs.DeclaredPaths.{declared-at}
 use Rattle.writing.specs.Sets.{Declarable}
-use Rattle.writing.specs.Writing as writing
-use Rattle.writing.specs.Writing.{pathSize}
+use Rattle.writing.specs.Writing.{pathSize, sessionFrom}
 use Rattle.writing.proofs.Appending.{stands}
-use Rattle.writing.proofs.ReadRecords.{path-same, session-path, session-read, session-size}
+use Rattle.writing.proofs.ReadRecords.{session-path, session-read, session-size}
 use Rattle.writing.proofs.RunOver.{Taken}
-use Rattle.ends.specs.Figure3.{D, joiningOf}
+use Rattle.ends.specs.Figure3.{joiningOf}
 use Rattle.ends.specs.declared.Source.{Source}
-use Rattle.links.specs.Links.{isIdle}
 use Rattle.links.specs.declared.Place.{Place}
-use Rattle.events.specs.Events.{Step, eventOf, joinOf, pathDeclaredIn, sourceSends, taking}
-use Rattle.sending.specs.Sending.{noneOf}
+use Rattle.events.specs.Events.{Step}
 use Rattle.machine.specs.Machine.{acting, judging}
-use Rattle.table.specs.Values.{SourceWithin}
-use Rattle.table.specs.Words.{countOf, hopsOf, linkOf, packetOf, packetsOf, putHops, putPath, putSource, sourceOf, stopOf}
+use Rattle.table.specs.Words.{countOf, hopsOf, linkOf, packetsOf, sourceOf, stopOf}
 use Rattle.table.proofs.InRange.{path-length, path-stop}
-use Rattle.table.proofs.Packets.{length-packets, packets-at}
-use Rattle.tasks.specs.declared.Packet.{Packet}
+use Rattle.table.proofs.Packets.{length-packets}
 use Rattle.reachable.specs.Invariant.{Every, Safe, also, none}
-use Rattle.reachable.proofs.JoinSteps.{Joined, Route, joined, route, theJoin}
-use Rattle.reachable.proofs.PacketLists.{every-append, every-at, every-map}
-use Rattle.reachable.proofs.SafeRecords.{event-safe}
-use Rattle.reachable.proofs.Sends.{appendedAll}
+use Rattle.reachable.proofs.PacketLists.{every-append, every-map}
 use Rattle.agreement.proofs.LinksLoaded.{LinksIn}
+use Rattle.agreement.proofs.OneRecord.{TakesSession, after-join, joiner, takes-session}
 
 -- the table has all links of d, and of the sessions below b those of d, with all that is theirs; packets are of these alone
 pub record SessionsIn (d : Declared) (b : ℕ) (w : List ℕ) : Type 0 where
@@ -87,10 +75,10 @@ sessions-skip d b w q r =
       bare = r .bare;
       active = λ t h l. active t h (last l);
       idle = λ t h l. r .idle t h (omega arith);
-      access = λ t h l m. r .access t h (below t l m) m;
-      maximum = λ t h l m. r .maximum t h (below t l m) m;
-      hops = λ t h l m. r .hops t h (below t l m) m;
-      stops = λ t h l m. r .stops t h (below t l m) m;
+      access = λ t h l m. r .access t h (member-below (d .sessions) b t q l m) m;
+      maximum = λ t h l m. r .maximum t h (member-below (d .sessions) b t q l m) m;
+      hops = λ t h l m. r .hops t h (member-below (d .sessions) b t q l m) m;
+      stops = λ t h l m. r .stops t h (member-below (d .sessions) b t q l m) m;
       few = omega (arith, r .few);
       senders = every-map (packetsOf w) (λ p h. omega arith) (r .senders);
     }
@@ -98,25 +86,6 @@ sessions-skip d b w q r =
     active : (t : ℕ) → t < 32 → (t < b) ⊎ (t ≡ b) → sourceOf w t .active ≡ hasOf t (d .sessions)
     active t h (inl l) = r .active t h l
     active t h (inr e) = r .idle t h (omega arith) ∙ sym (ap (λ (v : ℕ). hasOf v (d .sessions)) e ∙ q)
-
-    below : (t : ℕ) → t < suc b → has t (d .sessions) ≡ 1 → t < b
-    below t l m = go (last l)
-      where
-        go : (t < b) ⊎ (t ≡ b) → t < b
-        go (inl h) = h
-        go (inr e) = absurd (omega (arith, m, ap (λ (v : ℕ). has v (d .sessions)) e, is-out (d .sessions) b q))
-
--- the source of a session that joins, and the table after it
-abbrev joiner : ℕ → ℕ → Source
-joiner a m = joiningOf a m .source
-
-abbrev after-join : List ℕ → List ℕ → ℕ → ℕ → ℕ → ℕ → ℕ → List ℕ
-after-join s w t a m n at = appendedAll (putSource (putHops (putPath w t s at) t n) t (joiner a m)) (theJoin t (wholeOf (D (joiner a m))) ∷ [])
-
-join-does : (s w : List ℕ) (t a m n at : ℕ) → sourceOf w t .active ≡ false → aboveLine a m ≡ false → pathDeclaredIn w s at n ≡ true
-    → noneOf w t (countOf w) ≡ true → countOf w < 256 → eventOf s w (rec.Session t a m n at) ≡ taking (after-join s w t a m n at)
-unfolding eventOf joinOf sourceSends joiningOf appendedAll
-join-does s w t a m n at i l p q h = rw (i, l, p, q, le-ltb 256 (countOf w + 1) (omega arith)) refl
 
 module _ (d : Declared) (ok : Declarable d) (s : List ℕ) (b : ℕ) (w : List ℕ) (r : SessionsIn d b w) (low : b < 32) (m : has b (d .sessions) ≡ 1)
     (at : ℕ) (bytes : (h : ℕ) → h < 8 → getD s (at + h) 0 ≡ byteAt (d .path) b h) (k : RecordOk s (rec.Session b (getD (d .access) b 0) (getD (d .maximum) b 0) (pathSize (d .path) b) at)) where
@@ -130,110 +99,65 @@ module _ (d : Declared) (ok : Declarable d) (s : List ℕ) (b : ℕ) (w : List �
   n = pathSize (d .path) b
 
   -- each link of the path has a capacity
-  known-link : (h : ℕ) → h < n → (getD s (at + h) 0 < 64) × (0 < linkOf w (getD s (at + h) 0) .capacity)
-  unfolding pathDeclared
-  known-link h l =
+  known : (h : ℕ) → h < n → 0 < linkOf w (getD s (at + h) 0) .capacity
+  known h l =
       let p = path-is s at n (k .4) in
       let e = getD s (at + h) 0 in
-      let there : hasOf (byteAt (d .path) b h) (d .links) ≡ true = all-at n (λ i. hasOf (getD (d .path) (b * 8 + i) 0) (d .links)) h (ok .declared b low m) l in
+      let there : hasOf (byteAt (d .path) b h) (d .links) ≡ true = declared-at (d .links) (d .path) (b * 8) n (ok .declared b low m) h l in
       let member : has e (d .links) ≡ 1 = is-in (d .links) e (ap (λ (v : ℕ). hasOf v (d .links)) (bytes h (omega (arith, p .most))) ∙ there) in
-      let rate = and-both (ltb 0 (getD (d .capacity) e 0)) _ (ok .capacity e (p .link h l) member) in
-      (p .link h l, omega (arith, r .capacity e (p .link h l) member, ltb-true 0 (getD (d .capacity) e 0) (rate .0)))
-
-  known : pathDeclaredIn w s at n ≡ true
-  unfolding pathDeclaredIn
-  known = all-below n _ (λ h l. rw (lt-ltb _ 64 (known-link h l .0), lt-ltb 0 _ (known-link h l .1)) refl)
+      omega (arith, r .capacity e (p .link h l) member, rate-is (getD (d .capacity) e 0) (ok .capacity e (p .link h l) member) .0)
 
   none-left : Every (λ q. q .session ≡ b → ⊥) (packetsOf w)
   none-left = every-map (packetsOf w) (λ q h e. omega (arith, h, e)) (r .senders)
 
-  none-there : noneOf w b (countOf w) ≡ true
-  unfolding noneOf
-  none-there =
-      all-below (countOf w) _
-      (λ i l.
-      let z = packetOf w 0 in
-      let h : getD (packetsOf w) i z .session < b = every-at z (packetsOf w) i (omega (arith, length-packets w)) (r .senders) in
-      ap not (ne-eqb (packetOf w i .session) b (λ e. omega (arith, h, e, ap (λ (q : Packet). q .session) (packets-at w i z l)))))
-
-  does : eventOf s w (rec.Session b a x n at) ≡ taking (after-join s w b a x n at)
-  does = join-does s w b a x n at (r .idle b low (omega arith)) (ok .line b low m) known none-there (omega (arith, r .few))
-
   abbrev v : List ℕ
   v = after-join s w b a x n at
 
-  within : SourceWithin (joiner a x)
-  unfolding joiningOf
-  within =
-      record {
-        joined = k .1;
-        access = k .2;
-        maximum = k .3;
-        line = ltb-false a x (ok .line b low m);
-        rate = whole-within (omega arith);
-        told = tt;
-      }
-
-  is-active : joiner a x .active ≡ true
-  unfolding joiningOf
-  is-active = refl
-
-  waits : isIdle (joiner a x .mu) ≡ false
-  unfolding joiningOf
-  waits = refl
-
-  is-joined : Joined w b (wholeOf (D (joiner a x))) v
-  is-joined =
-      joined w (r .safe) b low s at n (path-is s at n (k .4)) (k .5) (λ i l. known-link i l .1) (r .idle b low (omega arith)) none-left (joiner a x) within is-active waits
-      (omega (arith, r .few))
-
-  is-routed : Route v b (joiner a x) s at n
-  is-routed =
-      route w (r .safe) b low s at n (path-is s at n (k .4)) (k .5) (λ i l. known-link i l .1) (r .idle b low (omega arith)) none-left (joiner a x) within is-active waits
-      (omega (arith, r .few))
+  takes : TakesSession s w b a x n at
+  takes = takes-session s w (r .safe) b a x n at k (r .idle b low (omega arith)) (ok .line b low m) known none-left (omega (arith, r .few))
 
   link-same : (e : ℕ) → e < 64 → linkOf v e .capacity ≡ linkOf w e .capacity
-  link-same e l = ap (λ (p : Place). p .link .capacity) (is-joined .places e l)
+  link-same e l = ap (λ (p : Place). p .link .capacity) (takes .joined .places e l)
 
   source-same : (t : ℕ) → t < 32 → t < b → sourceOf v t ≡ sourceOf w t
-  source-same t l i = is-joined .sources t l (λ e. omega arith)
+  source-same t l i = takes .joined .sources t l (λ e. omega arith)
 
   hops-same : (t : ℕ) → t < 32 → t < b → hopsOf v t ≡ hopsOf w t
-  hops-same t l i = sym (path-length v t) ∙ ap length (is-joined .paths t l (λ e. omega arith)) ∙ path-length w t
+  hops-same t l i = sym (path-length v t) ∙ ap length (takes .joined .paths t l (λ e. omega arith)) ∙ path-length w t
 
   stop-same : (t : ℕ) → t < 32 → t < b → (h : ℕ) → h < hopsOf w t → stopOf v t h ≡ stopOf w t h
   stop-same t l i h j =
-      sym (path-stop v t h 0 (omega (arith, hops-same t l i))) ∙ ap (λ (p : List ℕ). getD p h 0) (is-joined .paths t l (λ e. omega arith)) ∙ path-stop w t h 0 j
+      sym (path-stop v t h 0 (omega (arith, hops-same t l i))) ∙ ap (λ (p : List ℕ). getD p h 0) (takes .joined .paths t l (λ e. omega arith)) ∙ path-stop w t h 0 j
 
   new-source : (t : ℕ) → t ≡ b → sourceOf v t ≡ joiner a x
-  new-source t e = ap (sourceOf v) e ∙ is-routed .source
+  new-source t e = ap (sourceOf v) e ∙ takes .route .source
 
   count-next : countOf v ≡ countOf w + 1
   count-next =
-      sym (length-packets v) ∙ ap length (is-joined .packets) ∙ length-append (packetsOf w) _ ∙ ap (λ (y : ℕ). y + 1) (length-packets w)
+      sym (length-packets v) ∙ ap length (takes .joined .packets) ∙ length-append (packetsOf w) _ ∙ ap (λ (y : ℕ). y + 1) (length-packets w)
 
   sessions-next : SessionsIn d (suc b) (acting s w (rec.Session b a x n at))
   unfolding joiningOf
   sessions-next =
-      subst (SessionsIn d (suc b)) (sym (ap (λ (y : Step). y .words) does))
+      subst (SessionsIn d (suc b)) (sym (ap (λ (y : Step). y .words) (takes .does)))
       (record {
-        safe = subst Safe (ap (λ (y : Step). y .words) does) (event-safe s w (rec.Session b a x n at) k (r .safe));
+        safe = takes .safe;
         capacity = λ e l i. link-same e l ∙ r .capacity e l i;
         bare = λ e l i. link-same e l ∙ r .bare e l i;
         active = λ t l i. active t l (last i);
-        idle = λ t l i. ap (λ (z : Source). z .active) (is-joined .sources t l (λ e. omega arith)) ∙ r .idle t l (omega arith);
+        idle = λ t l i. ap (λ (z : Source). z .active) (takes .joined .sources t l (λ e. omega arith)) ∙ r .idle t l (omega arith);
         access = λ t l i j. access t l j (last i);
         maximum = λ t l i j. maximum t l j (last i);
         hops = λ t l i j. hops t l j (last i);
         stops = λ t l i j h g. stops t l j h g (last i);
         few = omega (arith, count-next, r .few);
-        senders = subst (Every (λ q. q .session < suc b)) (sym (is-joined .packets))
+        senders = subst (Every (λ q. q .session < suc b)) (sym (takes .joined .packets))
             (every-append (packetsOf w) _ (every-map (packetsOf w) (λ q h. omega arith) (r .senders)) (also (omega arith) none));
       })
     where
       active : (t : ℕ) → t < 32 → (t < b) ⊎ (t ≡ b) → sourceOf v t .active ≡ hasOf t (d .sessions)
       active t l (inl i) = ap (λ (z : Source). z .active) (source-same t l i) ∙ r .active t l i
-      active t l (inr e) = ap (λ (z : Source). z .active) (new-source t e) ∙ is-active ∙ sym (eq-eqb _ 1 (ap (λ (y : ℕ). has y (d .sessions)) e ∙ m))
+      active t l (inr e) = ap (λ (y : ℕ). sourceOf v y .active) e ∙ takes .joined .active ∙ sym (in-is (d .sessions) t (ap (λ (y : ℕ). has y (d .sessions)) e ∙ m))
 
       access : (t : ℕ) → t < 32 → has t (d .sessions) ≡ 1 → (t < b) ⊎ (t ≡ b) → sourceOf v t .access ≡ getD (d .access) t 0
       access t l j (inl i) = ap (λ (z : Source). z .access) (source-same t l i) ∙ r .access t l i j
@@ -245,20 +169,20 @@ module _ (d : Declared) (ok : Declarable d) (s : List ℕ) (b : ℕ) (w : List �
 
       hops : (t : ℕ) → t < 32 → has t (d .sessions) ≡ 1 → (t < b) ⊎ (t ≡ b) → hopsOf v t ≡ pathSize (d .path) t
       hops t l j (inl i) = hops-same t l i ∙ r .hops t l i j
-      hops t l j (inr e) = ap (hopsOf v) e ∙ is-routed .hops ∙ ap (pathSize (d .path)) (sym e)
+      hops t l j (inr e) = ap (hopsOf v) e ∙ takes .route .hops ∙ ap (pathSize (d .path)) (sym e)
 
       stops : (t : ℕ) → t < 32 → has t (d .sessions) ≡ 1 → (h : ℕ) → h < pathSize (d .path) t → (t < b) ⊎ (t ≡ b) → stopOf v t h ≡ byteAt (d .path) t h
       stops t l j h g (inl i) = stop-same t l i h (omega (arith, r .hops t l i j)) ∙ r .stops t l i j h g
       stops t l j h g (inr e) =
           let g' : h < n = subst (λ (y : ℕ). h < pathSize (d .path) y) e g in
-          ap (λ (y : ℕ). stopOf v y h) e ∙ is-routed .stop h g' ∙ bytes h (omega (arith, path-is s at n (k .4) .most)) ∙ ap (λ (y : ℕ). byteAt (d .path) y h) (sym e)
+          ap (λ (y : ℕ). stopOf v y h) e ∙ takes .route .stop h g' ∙ bytes h (omega (arith, path-is s at n (k .4) .most)) ∙ ap (λ (y : ℕ). byteAt (d .path) y h) (sym e)
 
 module _ (d : Declared) (ok : Declarable d) (s : List ℕ) where
   pub sessions-turn : (b : ℕ) (w : List ℕ) (before behind : List ℕ) → b < 32 → hasOf b (d .sessions) ≡ true → SessionsIn d b w
-      → s ≡ before ++ (writing.sessionOf d b ++ behind) → Taken call.Machine (judging s) (acting s) s (SessionsIn d) b w (length before) 19
+      → s ≡ before ++ (sessionFrom (d .access) (d .maximum) (d .path) b ++ behind) → Taken call.Machine (judging s) (acting s) s (SessionsIn d) b w (length before) 19
   unfolding values
   sessions-turn b w before behind h t r e =
-      let there = stands s before (writing.sessionOf d b) behind e in
+      let there = stands s before (sessionFrom (d .access) (d .maximum) (d .path) b) behind e in
       let at = length before in
       let m = is-in (d .sessions) b t in
       let a = getD (d .access) b 0 in
@@ -267,12 +191,12 @@ module _ (d : Declared) (ok : Declarable d) (s : List ℕ) where
       let bytes = session-path s at b a x n (byteAt (d .path) b) there in
       let small = path-is (d .path) (b * 8) n (ok .path b h m) .most in
       let path : pathOk s (at + 11) n ≡ true = path-same s (at + 11) (d .path) (b * 8) bytes n small ∙ ok .path b h m in
-      let rate = and-both (ltb 0 a) (leb a 1000000) (ok .access b h m) in
+      let rate = rate-is a (ok .access b h m) in
       let k : RecordOk s (rec.Session b a x n (at + 11)) =
-      (h, ltb-true 0 a (rate .0), leb-true a 1000000 (rate .1), ok .maximum b h m, path, omega (arith, there .fits)) in
+      (h, rate .0, rate .1, ok .maximum b h m, path, omega (arith, there .fits)) in
       record {
         what = rec.Session b a x n (at + 11);
-        taken = rw (session-read s at b a x n (byteAt (d .path) b) there call.Machine h (ok .access b h m) (ok .maximum b h m) path, ap (λ (y : Step). y .verdict) (does d ok s b w r h m (at + 11) bytes k)) refl;
+        taken = rw (session-read s at b a x n (byteAt (d .path) b) there call.Machine h (ok .access b h m) (ok .maximum b h m) path, ap (λ (y : Step). y .verdict) (takes d ok s b w r h m (at + 11) bytes k .does)) refl;
         long = session-size s at b a x n (byteAt (d .path) b) there;
         some = omega arith;
         fits = there .fits;

@@ -5,7 +5,8 @@ use mathlib.Core.List.{List}
 use mathlib.Core.Path.{_≡_}
 use Prim.Native.Nat.{ℕ, _<_}
 use lib.ListN.{getD}
-use Rattle.calculation.specs.Calculating.{Outcome, resultsOf}
+use Rattle.calculation.specs.Calculating.{Outcome, calculateOf, resultsOf}
+use Rattle.calculation.specs.declared.Calculated.the-variants as calculated
 use Rattle.conditions.specs.Conditions.{Active, OnPath}
 use Rattle.ends.specs.declared.Told.the-variants as told
 use Rattle.fractions.specs.declared.Rate.{Rate}
@@ -13,7 +14,7 @@ use Rattle.fractions.specs.Fraction.{frac}
 use Rattle.links.specs.Links.{holds, rateAt}
 use Rattle.declarations.specs.declared.Declared.{Declared}
 use Rattle.table.specs.Words.{placeOf, sourceOf}
-use Rattle.agreement.specs.Lines.{declarationsIn}
+use Rattle.present_set.specs.Held.{declarationsIn}
 
 -- what the calculation gives session s, one of those that d declares: numerator and denominator of the definition that `calculate` is proved equal to
 abbrev pub calculatedRate : Declared → ℕ → Rate
@@ -37,3 +38,9 @@ pub record HasRate (w : List ℕ) (s : ℕ) (x : Rate) : Type 0 where
 -- every active session has the rate that the calculation gives it for the declarations that the table holds
 pub record Agrees (w : List ℕ) : Type 0 where
   pub rates : (s : ℕ) → s < 32 → Active w s → HasRate w s (calculatedRate (declarationsIn w) s)
+
+-- a call of `calculate` on the input s accepts it with the table's links and active sessions, and writes for each of these the rate that it has and was
+-- last told
+pub record GivesRates (w s nums dens places : List ℕ) : Type 0 where
+  pub accepted : calculateOf s nums dens places .answer ≡ calculated.Done (declarationsIn w .links) (declarationsIn w .sessions)
+  pub rates : (t : ℕ) → t < 32 → Active w t → HasRate w t (writtenRate (calculateOf s nums dens places) t)

@@ -1,4 +1,5 @@
 -- The definitions that the theorems of agreement cite.
-pub mod Lines
 pub mod Agrees
 pub mod Needed
+pub mod Kinds
+pub mod Loaded

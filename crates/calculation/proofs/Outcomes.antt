@@ -19,7 +19,6 @@ use Rattle.fairness.proofs.Answers.{answer-unique, figure1-answer}
 use Rattle.fairness.proofs.Running.{values-at}
 use Rattle.records.specs.declared.End.{End}
 use Rattle.records.specs.declared.End.the-variants as end
-use Rattle.records.specs.declared.Refusal.{Refusal}
 use Rattle.records.specs.declared.Refusal.the-variants as refusal
 use Rattle.records.specs.Format.{Bytes}
 use Rattle.declarations.specs.Declaring.{declarationsOf}
@@ -58,6 +57,13 @@ module _ (s nums dens places : List ℕ) where
     pub by-records : length s ≤ 32768 → calculateOf s nums dens places ≡ afterRecords (declarationsOf s .end) (declarationsOf s .declared) nums dens places
     unfolding calculateOf
     by-records h = rw (le-ltb _ _ a, le-ltb _ _ b, le-ltb _ _ c, le-ltb _ _ h)
+
+    -- an input that is read to its end, and is not too long, is accepted
+    pub accepted : length s ≤ 32768 → declarationsOf s .end ≡ end.Finished
+        → calculateOf s nums dens places .answer ≡ calculated.Done (declarationsOf s .declared .links) (declarationsOf s .declared .sessions)
+    unfolding doneOf
+    accepted h e =
+        ap (λ (o : Outcome). o .answer) (by-records h ∙ ap (λ (x : End). afterRecords x (declarationsOf s .declared) nums dens places) e)
 
 -- "The calculation then writes nothing": where the number of the answer is a refusal's, the three slices are as they were
 abbrev Unwritten : List ℕ → List ℕ → List ℕ → Outcome → Type 0

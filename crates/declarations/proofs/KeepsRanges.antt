@@ -24,7 +24,7 @@ set-at-most b (x ∷ l) zero v h a (suc j) = a (suc j)
 set-at-most b (x ∷ l) (suc i) v h a zero = a 0
 set-at-most b (x ∷ l) (suc i) v h a (suc j) = set-at-most b l i v h (λ k. a (suc k)) j
 
-zeros-at-most : (b n : ℕ) → AtMost b (replicate n 0)
+pub zeros-at-most : (b n : ℕ) → AtMost b (replicate n 0)
 zeros-at-most b zero i = omega arith
 zeros-at-most b (suc n) zero = omega arith
 zeros-at-most b (suc n) (suc i) = zeros-at-most b n i

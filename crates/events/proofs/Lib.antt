@@ -2,5 +2,6 @@
 mod Rooms
 mod Needs
 mod Steps
+pub mod DeclaredPaths
 pub mod Refusals
 pub mod Order

@@ -2,10 +2,9 @@
 -- Assumes nothing.
 use mathlib.Core.Bool.{Bool, cond, false, true, _&&_}
 use mathlib.Core.List.{List}
-use mathlib.Core.Path.{_≡_, refl}
+use mathlib.Core.Path.{_≡_, refl, sym}
 use Prim.Native.Nat.{ℕ, _+_, _-_}
 use lib.Dec.{eqb, ltb}
-use native.Mathlib.Omega.{arith}
 use Rattle.ends.specs.declared.SourceDid.{SourceDid}
 use Rattle.ends.specs.Figure3.{changingOf, joiningOf, leavingOf, sourceStepOf}
 use Rattle.ends.specs.Figure4.{destinationStepOf}
@@ -14,6 +13,7 @@ use Rattle.records.specs.declared.Record.{Record}
 use Rattle.records.specs.declared.Record.the-variants as rec
 use Rattle.records.specs.declared.Refusal.{Refusal}
 use Rattle.records.specs.declared.Verdict.the-variants as verdict
+use Rattle.records.proofs.Refused.{not-taken}
 use Rattle.table.specs.Words.{countOf, declaredIn, hopsOf, packetOf, placeOf, putHops, putPath, sourceOf, stopOf}
 use Rattle.sessions.specs.Set.{sizeOf}
 use Rattle.tasks.specs.declared.Packet.{Packet}
@@ -29,7 +29,7 @@ refuses : (w : List ℕ) (r : Refusal) → Keeps w (refusing r w)
 refuses w r = record { kept = λ q e. refl }
 
 takes : (w v : List ℕ) → Keeps w (taking v)
-takes w v = record { kept = λ r e. absurd (let z : _≡_ {A = ℕ} 0 1 = cc in omega arith) }
+takes w v = record { kept = λ r e. absurd (not-taken r (sym e)) }
 
 either : (w : List ℕ) (t : Bool) (x y : Step) → Keeps w x → Keeps w y → Keeps w (cond t x y)
 either w true x y k l = k

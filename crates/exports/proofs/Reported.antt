@@ -1,9 +1,9 @@
 -- What a report says of the answer behind it: a refusal's number is never 0, a calculation reported by 0 is the one that was ordered, with the places
--- that bind, and a number of `settled` has the meaning of its answer.
+-- that bind, and a number of `settled` and a report of the writer have the meaning of their answers.
 -- Assumes nothing.
 use mathlib.Core.List.{List}
 use mathlib.Core.Logic.{inl, inr}
-use mathlib.Core.Path.{_≡_, ap, sym, _∙_}
+use mathlib.Core.Path.{_≡_, ap, refl, subst, sym, _∙_}
 use Prim.Native.Nat.{ℕ, _<_}
 use lib.ListN.{getD}
 use native.Mathlib.Omega.{arith}
@@ -18,8 +18,11 @@ use Rattle.records.specs.Refusals.{numberOf}
 use Rattle.records.specs.Run as records
 use Rattle.records.specs.declared.Refusal.{Refusal}
 use Rattle.records.specs.declared.Refusal.the-variants as refusal
-use Rattle.exports.specs.Meanings.{BindsWhereTaken, FairWhereTaken, SettledMeans}
-use Rattle.exports.specs.Reports.{calculationReportOf, endReportOf, runReportOf, settledNumberOf}
+use Rattle.present_set.specs.Present as present
+use Rattle.writing.specs.declared.Wrote.{Wrote}
+use Rattle.writing.specs.declared.Wrote.the-variants as wrote
+use Rattle.exports.specs.Meanings.{BindsWhereTaken, FairWhereTaken, RecordsMean, SettledMeans}
+use Rattle.exports.specs.Reports.{calculationReportOf, endReportOf, runReportOf, settledNumberOf, wroteReportOf}
 
 -- the documents' numbers start at 1
 numbered : (r : Refusal) → 0 < numberOf r
@@ -39,6 +42,7 @@ numbered refusal.TooManyPackets = omega arith
 numbered refusal.BadTable = omega arith
 numbered refusal.ShortSlice = omega arith
 numbered refusal.AboveLine = omega arith
+numbered refusal.ShorterThanOutput = omega arith
 
 -- a calculation's report, from what the calculation comes to
 pub calculation-reported : (a : Calculated) (report : List ℕ) (o : Outcome) → a ≡ o .answer → report ≡ calculationReportOf a → report ≡ calculationReportOf (o .answer)
@@ -72,3 +76,12 @@ module _ (w : List ℕ) (n : ℕ) where
       record { number = inr (inl e); yes = λ h. absurd (omega arith); no = λ h. not-five; refused = λ h. absurd (omega arith) }
   settled-means (settled.Refused r place) e (is-14, at-0, fails) =
       record { number = inr (inr (e ∙ is-14)); yes = λ h. absurd (omega arith); no = λ h. absurd (omega arith); refused = λ h. fails }
+
+module _ (w out after : List ℕ) where
+  -- of the report as it stands
+  records-mean-of : (a : Wrote) → present.Means w out after a → RecordsMean w out after (wroteReportOf a)
+  records-mean-of (wrote.Bytes n) m = record { written = λ z. m; refused = λ z. absurd (z refl) }
+  records-mean-of (wrote.Refused r place) m = record { written = λ z. absurd (omega (arith, numbered r, z)); refused = λ z. m }
+
+  pub records-mean : (a : Wrote) (report : List ℕ) → report ≡ wroteReportOf a → present.Means w out after a → RecordsMean w out after report
+  records-mean a report e m = subst (RecordsMean w out after) (sym e) (records-mean-of a m)

@@ -1,5 +1,5 @@
--- What the reported numbers mean: an accepted calculation is max-min fair (00, demand 2) and says what binds (02, §2), and settled is 01's five
--- conditions.
+-- What the reported numbers mean: an accepted calculation is max-min fair (00, demand 2) and says what binds (02, §2), settled is 01's five
+-- conditions, and what was written is the present set (02, §3).
 -- Assumes nothing: definitions.
 use mathlib.Core.List.{List}
 use mathlib.Core.Logic.{_⊎_}
@@ -13,6 +13,7 @@ use Rattle.filling.specs.Lines.{problemOf}
 use Rattle.fractions.specs.Fraction.{frac}
 use Rattle.handed.specs.Passes.{Passes}
 use Rattle.declarations.specs.Declaring.{declarationsOf}
+use Rattle.present_set.specs.Present.{Absent, Present}
 
 -- where the report's first word is 0, the slices hold for the declared sessions the rates in lowest terms that are max-min fair
 abbrev pub FairWhereTaken : List ℕ → List ℕ → List ℕ → List ℕ → Type 0
@@ -31,3 +32,9 @@ pub record SettledMeans (w : List ℕ) (n : ℕ) : Type 0 where
   pub yes : n ≡ 1 → Passes w × FiveConditions w
   pub no : n ≡ 0 → Passes w × (FiveConditions w → ⊥)
   pub refused : n ≡ 14 → Passes w → ⊥
+
+-- a report of `umbraconga_records`, of a table w and a slice that was `out` and is `after`: where its first word is 0, so many bytes of the present set
+-- were written, and else nothing was
+pub record RecordsMean (w out after report : List ℕ) : Type 0 where
+  pub written : getD report 0 0 ≡ 0 → Present w out after (getD report 2 0)
+  pub refused : (getD report 0 0 ≡ 0 → ⊥) → Absent w out after (getD report 0 0) (getD report 1 0)

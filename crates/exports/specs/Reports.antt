@@ -9,6 +9,8 @@ use Rattle.machine.specs.declared.SettledAnswer.the-variants as settled
 use Rattle.records.specs.Refusals.{numberOf}
 use Rattle.records.specs.Run as records
 use Rattle.records.specs.declared.End.{End}
+use Rattle.writing.specs.declared.Wrote.{Wrote}
+use Rattle.writing.specs.declared.Wrote.the-variants as wrote
 
 -- the calculation: the refusal's number or 0, its place, the declared links, the declared sessions
 abbrev pub calculationWords : calculation.Said → List ℕ
@@ -26,6 +28,11 @@ endReportOf taken e = runWords (records.saidOf taken e)
 
 abbrev pub runReportOf : records.Ran (List ℕ) → List ℕ
 runReportOf r = endReportOf (r .taken) (r .end)
+
+-- the writer: the refusal's number or 0, its place, the bytes written
+abbrev pub wroteReportOf : Wrote → List ℕ
+wroteReportOf (wrote.Bytes n) = 0 ∷ 0 ∷ n ∷ []
+wroteReportOf (wrote.Refused r place) = numberOf r ∷ place ∷ 0 ∷ []
 
 -- whether a table is settled: 1 yes, 0 no, or the refusal's number
 abbrev pub settledNumberOf : SettledAnswer → ℕ

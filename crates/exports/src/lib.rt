@@ -3,14 +3,16 @@
 ghost use mathlib.Core.Path.{_≡_};
 ghost use Rattle.calculation.specs.Calculating.{calculateOf};
 ghost use Rattle.machine.specs.Machine.{answerOf, machineOf, sessionOf, sessionReportOf, toldReportOf};
+ghost use Rattle.present_set.specs.Present.{presentOf};
 ghost use Rattle.table.specs.Words.{countOf, emptyWords};
-ghost use Rattle.exports.specs.Meanings.{BindsWhereTaken, FairWhereTaken, SettledMeans};
-ghost use Rattle.exports.specs.Reports.{calculationReportOf, endReportOf, runReportOf, settledNumberOf};
+ghost use Rattle.exports.specs.Meanings.{BindsWhereTaken, FairWhereTaken, RecordsMean, SettledMeans};
+ghost use Rattle.exports.specs.Reports.{calculationReportOf, endReportOf, runReportOf, settledNumberOf, wroteReportOf};
 use calculation::Calculated;
 use ends::Told;
 use machine::Session;
 use machine::SettledAnswer;
 use records::End;
+use writing::Wrote;
 
 // The number, the place, the declared links and the declared sessions.
 fn calculation_report(answer: Calculated) -> [u64; 4]
@@ -60,6 +62,16 @@ fn session_report(session: Session) -> [u64; 3]
     match session {
         Session::NotActive => [0, 0, 0],
         Session::Active(told) => told_report(told),
+    }
+}
+
+// The number, the place and the bytes written.
+fn wrote_report(answer: Wrote) -> [u64; 3]
+    ensures { λ r. ⌜ r ≡ wroteReportOf answer ⌝ }
+{
+    match answer {
+        Wrote::Bytes(n) => [0, 0, n as u64],
+        Wrote::Refused { refusal, place } => [records::number(refusal), place as u64, 0],
     }
 }
 
@@ -125,4 +137,15 @@ pub extern "C" fn umbraconga_told(table: &[u64; 9153], session: u32, report: &mu
     ensures { λ _. ⌜ now (report .exit) ≡ sessionReportOf (sessionOf (now (table .entry)) session) ⌝ }
 {
     *report = session_report(machine::session_at(table, session));
+}
+
+// Writes the records of the links and active sessions that a table holds: 14, then 17. At most 992 bytes.
+#[no_mangle]
+pub extern "C" fn umbraconga_records(table: &[u64; 9153], out: &mut [u8], report: &mut [u64; 3])
+    ensures exact { λ _. ⌜ (now (report .exit) ≡ wroteReportOf (presentOf (now (table .entry)) (now (out .entry)) .answer))
+        × (now (out .exit) ≡ presentOf (now (table .entry)) (now (out .entry)) .bytes) ⌝ }
+    ensures present { λ _. ⌜ RecordsMean (now (table .entry)) (now (out .entry)) (now (out .exit)) (now (report .exit)) ⌝ }
+{
+    let answer = present_set::write_records(table, out);
+    *report = wrote_report(answer);
 }

@@ -1,13 +1,15 @@
--- Figure 1 as a function: each round is one (`is-round`), keeps what holds, and fixes a session, until nobody is open.
+-- Figure 1 as a function, on lists of values, whose laws come first: each round is one (`is-round`), keeps what holds, and fixes a session, until nobody
+-- is open.
 -- Assumes nothing.
 use mathlib.Core.Bool.{Bool, cond, false, not, true}
+use mathlib.Core.List.{List, [], _∷_, _++_}
 use mathlib.Core.Logic.{_↔_, _⊎_, inl, inr}
-use mathlib.Core.Path.{_∙_, _≡_, ap, refl, sym}
+use mathlib.Core.Path.{_∙_, _≡_, ap, ap₂, refl, sym}
 use Prim.Native.Nat.{ℕ, zero, suc, _*_, _+_, _≤_, _<_}
 use native.Mathlib.Nat.{le-of-mul-le-mul-right, mul-le-mul-right}
 use native.Mathlib.Omega.{arith}
 use lib.Dec.{T, eqb→eq, ltb}
-use lib.ListN.{getD}
+use lib.ListN.{getD, length}
 use borrow.Author.Tests.{le-ltb, lt-ltb, ltb-false, ltb-true}
 use Rattle.fairness.specs.Figure1.{Net, Pick, State, at, chosen, counts, fixAt, isFixed, leftAt, lefts, nobody, oneRound, openAll, openAt, rate, roundOn, rounds, smaller, smallest, values}
 use Rattle.fairness.specs.Sum.{part}
@@ -18,6 +20,8 @@ use Rattle.fairness.proofs.Sums.{sum-at, sum-none}
 use Rattle.fractions.proofs.Cases.{and-join, and-split, cond-hit, cond-miss, eqb-T, extend, or-hit, or-miss, order, pos-right}
 use Rattle.fairness.proofs.Parts.{part-is}
 
+-- LISTS OF VALUES -----------------------------------------------------------------------------------------------------
+
 values-from : {A : Type 0} (n i j : ℕ) (f : ℕ → A) (z : A) → j < n → getD (values i n f) j z ≡ f (i + j)
 unfolding values
 values-from zero i j f z h = absurd (omega arith)
@@ -26,6 +30,33 @@ values-from (suc n) i (suc j) f z h = values-from n (suc i) j f z (omega arith) 
 
 pub values-at : {A : Type 0} (n j : ℕ) (f : ℕ → A) (z : A) → j < n → getD (values 0 n f) j z ≡ f j
 values-at n j f z h = values-from n 0 j f z h ∙ ap f (omega arith)
+
+-- functions that agree on the places have the same
+pub values-same : {A : Type 0} (i n : ℕ) (f g : ℕ → A) → ((h : ℕ) → h < i + n → f h ≡ g h) → values i n f ≡ values i n g
+unfolding values
+values-same i zero f g p = refl
+values-same i (suc n) f g p = ap₂ _∷_ (p i (omega arith)) (values-same (suc i) n f g (λ h l. p h (omega arith)))
+
+pub values-long : {A : Type 0} (i n : ℕ) (f : ℕ → A) → length (values i n f) ≡ n
+unfolding values
+values-long i zero f = refl
+values-long i (suc n) f = ap suc (values-long (suc i) n f)
+
+-- one more comes last
+pub values-last : {A : Type 0} (i n : ℕ) (f : ℕ → A) → values i (suc n) f ≡ values i n f ++ (f (i + n) ∷ [])
+unfolding values
+values-last i zero f = ap (λ (k : ℕ). f k ∷ []) {x = i} {y = i + 0} (omega arith)
+values-last {A} i (suc n) f =
+    ap (λ (l : List A). f i ∷ l) (values-last (suc i) n f ∙ ap (λ (k : ℕ). values (suc i) n f ++ (f k ∷ [])) {x = suc i + n} {y = i + suc n} (omega arith))
+
+-- a bound of each, and of 0, which stands past the end, bounds every place
+pub values-below : (i n : ℕ) (f : ℕ → ℕ) (m : ℕ) → 0 < m → ((j : ℕ) → j < i + n → f j < m) → (j : ℕ) → getD (values i n f) j 0 < m
+unfolding values
+values-below i zero f m p h j = p
+values-below i (suc n) f m p h zero = h i (omega arith)
+values-below i (suc n) f m p h (suc j) = values-below (suc i) n f m p (λ k l. h k (omega arith)) j
+
+-- THE LEAST SHARE -----------------------------------------------------------------------------------------------------
 
 abbrev Least : (ℕ → ℕ) → (ℕ → ℕ) → ℕ → Pick → Type 0
 Least a c n nobody = (e : ℕ) → e < n → c e ≡ 0
@@ -61,6 +92,8 @@ smallest-least a c (suc n) = go (smallest a c n) (smallest-least a c n)
     go : (p : Pick) → Least a c n p → Least a c (suc n) (smaller a c n p)
     go nobody l = first l (ltb 0 (c n)) refl
     go (at b) l = next b l (ltb (a n * c b) (a b * c n)) refl
+
+-- ROUNDS --------------------------------------------------------------------------------------------------------------
 
 -- one round at b is a round
 module _ (w : Net) (z : State) (A C : ℕ → ℕ) (hA : (e : ℕ) → e < w .links → A e ≡ leftAt w (z .den) (rate z) e) (hC : (e : ℕ) → e < w .links → C e ≡ openAt w (isFixed z) e) (b : ℕ) (least : Least A C (w .links) (at b)) where

@@ -1,10 +1,9 @@
 -- A run of the machine, turn by turn: a record that is taken, one that is refused, and the end.
 -- Assumes nothing.
 use mathlib.Core.List.{List}
-use mathlib.Core.Path.{_≡_, ap, refl, subst, sym, _∙_}
+use mathlib.Core.Path.{_≡_, ap, refl, sym, _∙_}
 use Prim.Native.Nat.{ℕ, _+_, _-_, _≤_, _<_}
 use lib.ListN.{length}
-use native.Mathlib.Omega.{arith}
 use Rattle.events.specs.Events.{Step, ended, eventOf}
 use Rattle.events.proofs.Refusals.{refused-keeps}
 use Rattle.records.specs.declared.Call.the-variants as call
@@ -19,6 +18,7 @@ use Rattle.records.specs.declared.Verdict.the-variants as verdict
 use Rattle.records.specs.Format.{readAt, sizeAt}
 use Rattle.records.specs.Run.{Ran, judged, runFrom, weighed}
 use Rattle.records.proofs.ReadRecords.{judged-record-ends}
+use Rattle.records.proofs.Refused.{not-taken}
 use Rattle.records.proofs.Runs.{run-refused, run-taken}
 use Rattle.machine.specs.Machine.{acting, judging, readStep, stepOf}
 
@@ -56,9 +56,7 @@ module _ (s w u : List ℕ) (n at : ℕ) (v : Verdict) (a : n ≤ at) (b : at < 
           run-taken call.Machine (judging s) (acting s) s w n at x a b h
               ∙ ap (λ (z : List ℕ). going s (length s - (n + 1)) z (n + 1) (at + sizeAt s at)) (sym (ap (λ (z : Step). z .words) f)),
         )
-    taken-by (read.Refused r) q f =
-        let g : verdict.Refused r ≡ verdict.Taken = sym (ap (λ (z : Step). z .verdict) f) ∙ t in
-        absurd (let z : _≡_ {A = ℕ} 0 1 = cc in omega arith)
+    taken-by (read.Refused r) q f = absurd (not-taken r (sym (ap (λ (z : Step). z .verdict) f) ∙ t))
 
     pub turn-ends : at + sizeAt s at ≤ length s
     turn-ends = taken-by (readAt call.Machine s at) refl made .0

@@ -1,19 +1,20 @@
 -- A join: the table after it.
 -- Assumes nothing.
-use mathlib.Core.Bool.{false, not, true, _&&_}
+use mathlib.Core.Bool.{false, not, true}
 use mathlib.Core.List.{List, [], _∷_, _++_}
 use mathlib.Core.Path.{_≡_, ap, refl, subst, sym, _∙_}
 use Prim.Native.Nat.{ℕ, _+_, _<_, _≤_}
 use native.Mathlib.Omega.{arith}
 use borrow.Author.Tests.{eqb-false, ltb-false, ltb-true}
-use lib.Dec.{eqb, ltb}
+use lib.Dec.{eqb}
 use lib.ListN.{drop, getD, length}
 use lib.Seq.{getD-drop, getD-take}
 use Rattle.ends.specs.declared.Source.{Source}
 use Rattle.ends.specs.Figure3.{D, joiningOf}
 use Rattle.events.specs.Events.{Step, joinOf, pathDeclaredIn, sourceSends}
+use Rattle.events.proofs.DeclaredPaths.{path-declared}
 use Rattle.sending.specs.Sending.{noneOf, sentFrom}
-use Rattle.fractions.proofs.Cases.{and-both, cases, not-true}
+use Rattle.fractions.proofs.Cases.{cases, not-true}
 use Rattle.fractions.proofs.Ranges.{whole-within}
 use Rattle.fractions.specs.declared.Rate.{Rate}
 use Rattle.fractions.specs.Fraction.{maxRate, wholeOf}
@@ -25,7 +26,7 @@ use Rattle.records.specs.Format.{pathOk}
 use Rattle.records.specs.Limits.{aboveLine}
 use Rattle.soundness.specs.Sound.{Held}
 use Rattle.table.specs.Values.{SourceWithin}
-use Rattle.table.specs.Words.{countOf, declaredIn, hopsOf, linkOf, packetOf, packetsOf, pathOf, placeOf, putHops, putPath, putSource, sourceOf, stopOf}
+use Rattle.table.specs.Words.{countOf, hopsOf, linkOf, packetOf, packetsOf, pathOf, placeOf, putHops, putPath, putSource, sourceOf, stopOf}
 use Rattle.ranges.proofs.FitsMeans.{source-within}
 use Rattle.table.proofs.InRange.{path-stop}
 use Rattle.table.proofs.Packets.{length-packets, packets-at}
@@ -42,14 +43,6 @@ use Rattle.reachable.proofs.Sends.{Sent, all-sent, appendedAll}
 use Rattle.reachable.proofs.SentPackets.{sent-ok}
 use Rattle.reachable.proofs.SourceRules.{limit-within}
 use Rattle.reachable.proofs.Unless.{unless-many}
-
--- THE PATH OF A RECORD ------------------------------------------------------------------------------------------------
-
-path-declared : (w bytes : List ℕ) (at n : ℕ) → pathDeclaredIn w bytes at n ≡ true → (i : ℕ) → i < n → 0 < linkOf w (getD bytes (at + i) 0) .capacity
-unfolding pathDeclaredIn
-path-declared w bytes at n h i l =
-    let e = getD bytes (at + i) 0 in
-    ltb-true 0 (linkOf w e .capacity) (and-both (ltb e 64) (declaredIn w e) (all-at n (λ h. ltb (getD bytes (at + h) 0) 64 && declaredIn w (getD bytes (at + h) 0)) i h l) .1)
 
 -- no packet of the session is in flight
 none-of : (w : List ℕ) (s : ℕ) → noneOf w s (countOf w) ≡ true → Every (λ q. q .session ≡ s → ⊥) (packetsOf w)
@@ -221,7 +214,7 @@ join-either P bytes w s access maximum n at ls a0 a1 m1 ok whole i k f =
     unless-many P _ w _ k
     (λ few.
     f _ _
-    (joined w i s ls bytes at n (path-is bytes at n ok) whole (path-declared w bytes at n d) t (none-of w s e) _
+    (joined w i s ls bytes at n (path-is bytes at n ok) whole (λ j l. ltb-true 0 _ (path-declared w bytes at n d j l)) t (none-of w s e) _
     (record { joined = a0; access = a1; maximum = m1; line = ltb-false access maximum b; rate = whole-within (omega arith); told = tt }) refl refl few)))
     (λ e. k))
     (λ d. k)))

@@ -1,4 +1,4 @@
--- A test of all places below n: one more, one that fails, and each of them.
+-- A test of all places below n: one more, one that fails, and each of them; and tests that agree.
 -- Assumes nothing.
 use mathlib.Core.Bool.{Bool, _&&_, false, true}
 use mathlib.Core.Logic.{_⊎_, inl, inr}
@@ -39,3 +39,9 @@ pub all-below : (n : ℕ) (f : ℕ → Bool) → ((i : ℕ) → i < n → f i �
 unfolding all
 all-below zero f h = refl
 all-below (suc n) f h = ap₂ _&&_ (all-below n f (λ i l. h i (omega arith))) (h n (omega arith))
+
+-- tests that agree on all of them
+pub all-eq : (n : ℕ) (f g : ℕ → Bool) → ((i : ℕ) → i < n → f i ≡ g i) → all n f ≡ all n g
+unfolding all
+all-eq zero f g h = refl
+all-eq (suc n) f g h = ap₂ _&&_ (all-eq n f g (λ i l. h i (omega arith))) (h n (omega arith))

@@ -4,6 +4,8 @@ pub mod PathBytes
 pub mod Somes
 pub mod Bodies
 pub mod TakenKinds
+pub mod Rates
+pub mod Refused
 pub mod ReadRecords
 pub mod Runs
 mod PastEnd

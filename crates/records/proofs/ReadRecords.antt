@@ -17,6 +17,8 @@ use Rattle.records.specs.declared.Record.{Record}
 use Rattle.records.specs.declared.Verdict.{Verdict}
 use Rattle.records.specs.declared.Verdict.the-variants as verdict
 use Rattle.fractions.proofs.Cases.{and-both, cases}
+use Rattle.records.proofs.Rates.{rate-is}
+use Rattle.records.proofs.Refused.{not-read}
 
 -- a path has 1 to 8 links
 pub path-size : (s : List ℕ) (at n : ℕ) → pathOk s at n ≡ true → (0 < n) × (n ≤ 8)
@@ -38,7 +40,7 @@ unfolding linkAt
 link-ok s at =
     cases (Ok s) (ltb (getD s (at + 1) 0) 64) _ _
     (λ e. cases (Ok s) (rateOk (be4 s (at + 2))) _ _
-    (λ f. let b = and-both _ _ f in (ltb-true _ _ e, ltb-true _ _ (b .0), leb-true _ _ (b .1)))
+    (λ f. let b = rate-is (be4 s (at + 2)) f in (ltb-true _ _ e, b .0, b .1))
     (λ f. none))
     (λ e. none)
 
@@ -50,8 +52,8 @@ session-ok s at h =
     (λ f. cases (Ok s) (pathOk s (at + 11) (getD s (at + 10) 0)) _ _
     (λ g.
     let b = and-both (rateOk (be4 s (at + 2))) (leb (be4 s (at + 6)) 1000000) f in
-    let a = and-both _ _ (b .0) in
-    (ltb-true _ _ e, ltb-true _ _ (a .0), leb-true _ _ (a .1), leb-true _ _ (b .1), g, omega arith))
+    let a = rate-is (be4 s (at + 2)) (b .0) in
+    (ltb-true _ _ e, a .0, a .1, leb-true _ _ (b .1), g, omega arith))
     (λ g. none))
     (λ f. none))
     (λ e. none)
@@ -118,8 +120,8 @@ judged-read (read.Record y) judge x e = taken (judge y) e
   where
     taken : (v : Verdict) → weighed v y ≡ read.Record x → read.Record y ≡ read.Record x
     taken verdict.Taken q = q
-    taken (verdict.Refused r) q = absurd (let z : _≡_ {A = ℕ} 0 1 = cc in omega arith)
-judged-read (read.Refused r) judge x e = absurd (let z : _≡_ {A = ℕ} 0 1 = cc in omega arith)
+    taken (verdict.Refused r) q = absurd (not-read r x q)
+judged-read (read.Refused r) judge x e = absurd (not-read r x e)
 
 -- and the judge took it
 pub judged-taken : (r : Read) (judge : Record → Verdict) (x : Record) → judged r judge ≡ read.Record x → judge x ≡ verdict.Taken
@@ -127,8 +129,8 @@ judged-taken (read.Record y) judge x e = taken (judge y) refl e
   where
     taken : (v : Verdict) → judge y ≡ v → weighed v y ≡ read.Record x → judge x ≡ verdict.Taken
     taken verdict.Taken q f = subst (Taking judge) f q
-    taken (verdict.Refused r) q f = absurd (let z : _≡_ {A = ℕ} 0 1 = cc in omega arith)
-judged-taken (read.Refused r) judge x e = absurd (let z : _≡_ {A = ℕ} 0 1 = cc in omega arith)
+    taken (verdict.Refused r) q f = absurd (not-read r x f)
+judged-taken (read.Refused r) judge x e = absurd (not-read r x e)
 
 module _ (c : Call) (s : List ℕ) (at : ℕ) (judge : Record → Verdict) (x : Record) (e : judged (readAt c s at) judge ≡ read.Record x) where
   pub judged-record-ok : Bytes s → RecordOk s x

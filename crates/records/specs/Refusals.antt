@@ -21,3 +21,4 @@ numberOf refusal.TooManyPackets = 13  -- more than 256 packets after the step
 numberOf refusal.BadTable = 14  -- a table handed in has a fault
 numberOf refusal.ShortSlice = 15  -- a lent answer slice has fewer than 32 places
 numberOf refusal.AboveLine = 16  -- a nonzero maximum larger than the session's access rate (02, §1)
+numberOf refusal.ShorterThanOutput = 17  -- a lent slice is shorter than the output (02, §3)

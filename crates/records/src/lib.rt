@@ -45,6 +45,7 @@ pub enum Refusal {
     BadTable,
     ShortSlice,
     AboveLine,
+    ShorterThanOutput,
 }
 
 // The calls that read records take different kinds.
@@ -117,6 +118,7 @@ pub fn number(r: Refusal) -> u64
         Refusal::BadTable => 14,
         Refusal::ShortSlice => 15,
         Refusal::AboveLine => 16,
+        Refusal::ShorterThanOutput => 17,
     }
 }
 

@@ -1,12 +1,14 @@
 -- Members: who is one after `put` and `cut`, how large the words get, and that the members make the word.
 -- Assumes nothing.
+use mathlib.Core.Bool.{Bool, false, true}
 use mathlib.Core.Logic.{_⊎_, inl, inr}
 use mathlib.Core.Path.{_≡_, refl, ap, sym, _∙_}
 use Prim.Native.Nat.{ℕ, zero, suc, _+_, _*_, _/_, _%_, _^_, _≤_, _<_}
+use native.Mathlib.Decide.{ℕ-discrete}
 use native.Mathlib.Nat.{pow-suc}
-use mathlib.Core.Bool.{false, true}
 use native.Mathlib.Omega.{arith}
 use borrow.Author.Tests.{eqb-false, eqb-true}
+use lib.Dec.{eqb}
 use Rattle.sessions.specs.Set.{cut, has, hasOf, put}
 
 -- a digit is 0 or 1
@@ -34,6 +36,21 @@ is-out w s e = go (has-or-not s w)
     go : (has s w ≡ 0) ⊎ (has s w ≡ 1) → has s w ≡ 0
     go (inl h) = h
     go (inr h) = absurd (eqb-false (has s w) 1 e h)
+
+-- and back
+pub in-is : (w s : ℕ) → has s w ≡ 1 → hasOf s w ≡ true
+in-is w s e = ap (λ (d : ℕ). eqb d 1) e
+
+pub out-is : (w s : ℕ) → has s w ≡ 0 → hasOf s w ≡ false
+out-is w s e = ap (λ (d : ℕ). eqb d 1) e
+
+-- a member up to b is below b, where b is none
+pub member-below : (w b s : ℕ) → hasOf b w ≡ false → s < suc b → has s w ≡ 1 → s < b
+member-below w b s e h m = go (ℕ-discrete s b)
+  where
+    go : Dec (s ≡ b) → s < b
+    go (yes q) = absurd (omega (arith, m, ap (λ (y : ℕ). has y w) q, is-out w b e))
+    go (no n) = omega arith
 
 -- the empty set has no member
 pub has-zero : (s : ℕ) → has s 0 ≡ 0
@@ -70,6 +87,14 @@ has-put-other zero (suc t) w n = ap (has t) (half (w / 2) 1 (omega arith))
 has-put-other (suc s) zero w n = omega arith
 has-put-other (suc s) (suc t) w n =
     ap (has t) (half (put s (w / 2)) (w % 2) (omega arith)) ∙ has-put-other s t (w / 2) (λ e. n (ap suc e))
+
+-- the test of a set with s more, by the test of the set
+pub put-is : (s t w : ℕ) (b : Bool) → (s ≡ t → b ≡ true) → ((s ≡ t → ⊥) → hasOf t w ≡ b) → hasOf t (put s w) ≡ b
+put-is s t w b new old = go (ℕ-discrete s t)
+  where
+    go : Dec (s ≡ t) → hasOf t (put s w) ≡ b
+    go (yes e) = in-is (put s w) t (ap (λ (y : ℕ). has y (put s w)) (sym e) ∙ has-put-same s w) ∙ sym (new e)
+    go (no n) = ap (λ (d : ℕ). eqb d 1) (has-put-other s t w n) ∙ old n
 
 -- a new member adds its digit
 pub put-new : (s w : ℕ) → has s w ≡ 0 → put s w ≡ w + 2 ^ s

@@ -1,6 +1,7 @@
 // Sets as words: of sessions with 32 bits, one bit a session (01, "Fractions"), and of links with 64.
 ghost use mathlib.Core.Path.{_≡_};
 ghost use Prim.Native.Nat.{ℕ, _<_};
+ghost use lib.Count.{onesIn};
 ghost use Rattle.sessions.specs.Set.{hasOf, onlyOf, put, cut, sizeOf, nextOf, nextLinkOf};
 
 // The set of one session.
@@ -88,4 +89,11 @@ pub fn next_link(w: u64) -> u32
     ensures { λ r. ⌜ r ≡ nextLinkOf w ⌝ }
 {
     u64::trailing_zeros(w)
+}
+
+// How many links.
+pub fn size_links(w: u64) -> u32
+    ensures { λ r. ⌜ r ≡ onesIn 64 w ⌝ }
+{
+    u64::count_ones(w)
 }

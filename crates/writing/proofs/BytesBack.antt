@@ -4,26 +4,26 @@
 use mathlib.Core.Bool.{_&&_, cond, true}
 use mathlib.Core.List.{List}
 use mathlib.Core.Logic.{_⊎_, inl, inr}
-use mathlib.Core.Path.{_≡_, ap, refl, subst, sym}
-use Prim.Native.Nat.{ℕ, zero, suc, _+_, _-_, _*_, _<_, _≤_}
+use mathlib.Core.Path.{_≡_, ap, subst, sym}
+use Prim.Native.Nat.{ℕ, zero, suc, _+_, _*_, _<_, _≤_}
 use native.Mathlib.Omega.{arith}
-use borrow.Author.Tests.{le-ltb, leb-true, lt-ltb}
+use borrow.Author.Tests.{leb-true, lt-ltb}
 use lib.Dec.{leb, ltb}
 use lib.ListN.{getD, length}
-use Rattle.fractions.proofs.Cases.{and-both, order}
+use Rattle.fractions.proofs.Cases.{and-both}
 use Rattle.sessions.proofs.Members.{has-zero}
 use Rattle.records.specs.Format.{Bytes, RecordOk, be2, be4, bodyOf, readAt, sizeAt}
-use Rattle.records.specs.Run.{Ran, after, judged, runFrom}
+use Rattle.records.specs.Run.{Ran, judged, runFrom}
 use Rattle.records.specs.declared.Call.the-variants as call
 use Rattle.records.specs.declared.End.the-variants as end
-use Rattle.records.specs.declared.Read.{Read}
 use Rattle.records.specs.declared.Read.the-variants as read
 use Rattle.records.specs.declared.Record.{Record}
 use Rattle.records.specs.declared.Record.the-variants as rec
-use Rattle.records.specs.declared.Refusal.{Refusal}
 use Rattle.records.proofs.ReadRecords.{judged-read, judged-record-ends, judged-record-ok}
+use Rattle.records.proofs.Runs.{TookOne, finished-turn, run-end, run-takes}
 use Rattle.declarations.specs.Declaring.{declarationsOf, declareOf, judging, noneDeclared}
 use Rattle.declarations.specs.declared.Declared.{Declared}
+use Rattle.declarations.proofs.KeepsLengths.{none-lengths}
 use Rattle.writing.specs.Order.{inOrder, risesFrom}
 use Rattle.writing.specs.Writing.{recordsOf}
 use Rattle.writing.proofs.Rests.{Open, Rest, link-open, link-rest, rest-end, session-open, session-rest}
@@ -108,9 +108,6 @@ some : (s : List ℕ) (at : ℕ) → 0 < sizeAt s at
 unfolding sizeAt
 some s at = omega arith
 
-not-finished : (r : Refusal) (place : ℕ) → end.Refused r place ≡ end.Finished → ⊥
-not-finished r place e = let z : _≡_ {A = ℕ} 0 1 = cc in omega arith
-
 module _ (s : List ℕ) (bytes : Bytes s) where
   abbrev run : ℕ → Declared → ℕ → ℕ → Ran Declared
   run k z n at = runFrom call.Calculation (judging s) (declareOf s) s k z n at
@@ -119,32 +116,20 @@ module _ (s : List ℕ) (bytes : Bytes s) where
       → Rest s z (run k z n at .state) low at
   unfolding runFrom risesFrom
   back-from zero z n at low h o e r = rest-end s z low at (omega arith) o
-  back-from (suc k) z n at low h o e r = go (order (length s) at) e r (λ y m p q. back-from k y m p q)
+  back-from (suc k) z n at low h o e r = go (finished-turn call.Calculation (judging s) (declareOf s) s k z n at e) r (λ y m p q. back-from k y m p q)
     where
-      more : Record → Ran Declared
-      more x = run k (declareOf s z x) (n + 1) (at + sizeAt s at)
-
-      there : at < length s → (x : Read) → judged (readAt call.Calculation s at) (judging s z) ≡ x → after x more z n at .end ≡ end.Finished
-          → (leb low (be2 s at) && risesFrom k s (at + sizeAt s at) (be2 s at + 1)) ≡ true
-          → ((y : Declared) (m p q : ℕ) → length s ≤ p + k → Open y q → run k y m p .end ≡ end.Finished → risesFrom k s p q ≡ true
-          → Rest s y (run k y m p .state) q p)
-          → Rest s z (after x more z n at .state) low at
-      there l (read.Refused x) q f g again = absurd (not-finished x at f)
-      there l (read.Record x) q f g again =
-          let b = and-both (leb low (be2 s at)) _ g in
-          let a = record-after s bytes z low at o x q (leb-true _ _ (b .0)) in
-          a .1 _ (again (declareOf s z x) (n + 1) (at + sizeAt s at) (be2 s at + 1) (omega (arith, some s at)) (a .0) f (b .1))
-
-      go : (length s ≤ at) ⊎ (at < length s)
-          → cond (ltb at (length s)) (after (judged (readAt call.Calculation s at) (judging s z)) more z n at) (record { state = z; taken = n; end = end.Finished }) .end ≡ end.Finished
+      go : (length s ≤ at) ⊎ TookOne call.Calculation (judging s) (declareOf s) s k z n at
           → cond (ltb at (length s)) (leb low (be2 s at) && risesFrom k s (at + sizeAt s at) (be2 s at + 1)) true ≡ true
           → ((y : Declared) (m p q : ℕ) → length s ≤ p + k → Open y q → run k y m p .end ≡ end.Finished → risesFrom k s p q ≡ true
           → Rest s y (run k y m p .state) q p)
-          → Rest s z (cond (ltb at (length s)) (after (judged (readAt call.Calculation s at) (judging s z)) more z n at) (record { state = z; taken = n; end = end.Finished }) .state) low at
-      go (inl l) f g again = rw (le-ltb at (length s) l) (rest-end s z low at l o)
-      go (inr l) f g again =
-          let t = lt-ltb at (length s) l in
-          rw t (there l (judged (readAt call.Calculation s at) (judging s z)) refl (rw t at f) (rw t at g) again)
+          → Rest s z (run (suc k) z n at .state) low at
+      go (inl l) g again =
+          subst (λ (x : Ran Declared). Rest s z (x .state) low at) (sym (run-end call.Calculation (judging s) (declareOf s) s (suc k) z n at l)) (rest-end s z low at l o)
+      go (inr t) g again =
+          let b = and-both (leb low (be2 s at)) _ (rw (lt-ltb at (length s) (t .within)) at g) in
+          let a = record-after s bytes z low at o (t .what) (t .taken) (leb-true _ _ (b .0)) in
+          subst (λ (x : Ran Declared). Rest s z (x .state) low at) (sym (run-takes call.Calculation (judging s) (declareOf s) s k z n at (t .what) (t .within) (t .taken)))
+          (a .1 _ (again (declareOf s z (t .what)) (n + 1) (at + sizeAt s at) (be2 s at + 1) (omega (arith, some s at)) (a .0) (t .rest) (b .1)))
 
 open-none : Open noneDeclared 0
 unfolding noneDeclared
@@ -152,10 +137,7 @@ open-none =
     record {
       links = λ e h. has-zero e;
       sessions = λ t h. has-zero t;
-      capacities = refl;
-      accesses = refl;
-      maxima = refl;
-      paths = refl;
+      lengths = none-lengths;
     }
 
 -- an accepted input in the writer's order is what is written of its declarations

@@ -1,46 +1,43 @@
--- What an input declares is a set that can be declared (`Declarable`), as every record that is taken leaves one; and links that it does not declare have
--- no capacity.
+-- What an input declares is a set that can be declared (`Declarable`), as every record that is taken leaves one.
 -- Assumes nothing.
 use mathlib.Core.Bool.{false, true}
 use mathlib.Core.List.{List}
 use mathlib.Core.Logic.{_⊎_, inl, inr}
-use mathlib.Core.Path.{_≡_, ap, refl, subst, sym, _∙_}
-use Prim.Native.Nat.{ℕ, zero, suc, _+_, _*_, _<_, _≤_}
+use mathlib.Core.Path.{_≡_, ap, subst, sym, _∙_}
+use Prim.Native.Nat.{ℕ, _+_, _*_, _<_, _≤_}
 use native.Mathlib.Decide.{ℕ-discrete}
 use native.Mathlib.Omega.{arith}
-use borrow.Author.Tests.{eq-eqb, le-leb, lt-ltb}
-use lib.ListN.{getD, length, length-set, replicate, set}
+use lib.ListN.{getD, length, set}
 use lib.Seq.{getD-set-other, getD-set-same}
 use Rattle.fractions.proofs.Cases.{chose-first, chose-second, order}
 use Rattle.sessions.specs.Set.{has, hasOf, put}
-use Rattle.sessions.proofs.Members.{has-put-other, has-put-same, has-zero, is-in, put-lt}
+use Rattle.sessions.proofs.Members.{has-put-other, has-zero, put-lt}
 use Rattle.records.specs.Format.{Bytes, RecordOk, pathOk, rateOk}
 use Rattle.records.specs.Limits.{aboveLine}
 use Rattle.records.specs.declared.Call.the-variants as call
 use Rattle.records.specs.declared.Record.{Record}
 use Rattle.records.specs.declared.Record.the-variants as rec
-use Rattle.records.specs.declared.Refusal.{Refusal}
 use Rattle.records.specs.declared.Refusal.the-variants as refusal
 use Rattle.records.specs.declared.Verdict.the-variants as verdict
-use Rattle.records.proofs.Alls.{all-at, all-below}
+use Rattle.records.proofs.PathBytes.{path-same}
+use Rattle.records.proofs.Rates.{rate-passes}
 use Rattle.records.proofs.ReadRecords.{path-size}
+use Rattle.records.proofs.Refused.{not-taken}
 use Rattle.records.proofs.Runs.{run-keeps}
 use Rattle.declarations.specs.Declaring.{copied, declarationsOf, declareOf, judgeOf, judging, noneDeclared, pathDeclared}
 use Rattle.declarations.specs.declared.Declared.{Declared}
+use Rattle.declarations.proofs.Copied.{copied-other, copied-there}
+use Rattle.declarations.proofs.DeclaredPaths.{declared-same, more-links}
+use Rattle.declarations.proofs.KeepsLengths.{Lengths, declare-lengths, none-lengths}
 use Rattle.writing.specs.Sets.{Declarable}
 use Rattle.writing.specs.Writing.{pathSize}
 use Rattle.writing.proofs.EqualOutput.{size-same}
 use Rattle.writing.proofs.Paths.{path-size-is}
-use Rattle.writing.proofs.Copied.{copied-long, copied-other, copied-there}
-use Rattle.writing.proofs.ReadRecords.{declared-same, path-same}
 
 -- a set that can be declared, in arrays of their lengths
 record Kept (d : Declared) : Type 0 where
   ok : Declarable d
-  capacities : length (d .capacity) ≡ 64
-  accesses : length (d .access) ≡ 32
-  maxima : length (d .maximum) ≡ 32
-  paths : length (d .path) ≡ 256
+  lengths : Lengths d
 
 none-kept : Kept noneDeclared
 unfolding noneDeclared
@@ -57,10 +54,7 @@ none-kept =
             path = λ t h m. absurd (omega (arith, m, has-zero t));
             declared = λ t h m. absurd (omega (arith, m, has-zero t));
           };
-      capacities = refl;
-      accesses = refl;
-      maxima = refl;
-      paths = refl;
+      lengths = none-lengths;
     }
 
 -- who is a member after b comes is b, or was one
@@ -77,19 +71,6 @@ set-is l b v t h P p q = go (ℕ-discrete b t)
 
 -- A LINK --------------------------------------------------------------------------------------------------------------
 
--- more links: a path that was declared stays so
-more-links : (links e n : ℕ) (path : List ℕ) (at : ℕ) → pathDeclared links path at n ≡ true → pathDeclared (put e links) path at n ≡ true
-unfolding pathDeclared
-more-links links e n path at h =
-    all-below n _ (λ i l. still (getD path (at + i) 0) (is-in links (getD path (at + i) 0) (all-at n (λ j. hasOf (getD path (at + j) 0) links) i h l)) (ℕ-discrete e (getD path (at + i) 0)))
-  where
-    still : (b : ℕ) → has b links ≡ 1 → Dec (e ≡ b) → hasOf b (put e links) ≡ true
-    still b m (yes q) = eq-eqb _ 1 (ap (λ (v : ℕ). has v (put e links)) (sym q) ∙ has-put-same e links)
-    still b m (no n) = eq-eqb _ 1 (has-put-other e b links n ∙ m)
-
-rate-ok : (n : ℕ) → 0 < n → n ≤ 1000000 → rateOk n ≡ true
-rate-ok n a b = rw (lt-ltb 0 n a, le-leb n 1000000 b) refl
-
 link-kept : (s : List ℕ) (d : Declared) (e c : ℕ) → Kept d → RecordOk s (rec.Link e c) → Kept (declareOf s d (rec.Link e c))
 unfolding declareOf
 link-kept s d e c k r =
@@ -99,18 +80,15 @@ link-kept s d e c k r =
             links = put-lt 64 e (d .links) (r .0) (k .ok .links);
             sessions = k .ok .sessions;
             capacity = λ i h m.
-                set-is (d .capacity) e c i (omega (arith, k .capacities, r .0)) (λ (v : ℕ). rateOk v ≡ true) (rate-ok c (r .1) (r .2))
+                set-is (d .capacity) e c i (omega (arith, k .lengths .capacity, r .0)) (λ (v : ℕ). rateOk v ≡ true) (rate-passes c (r .1) (r .2))
                 (λ n. k .ok .capacity i h (member-was e i (d .links) m n));
             access = k .ok .access;
             maximum = k .ok .maximum;
             line = k .ok .line;
             path = k .ok .path;
-            declared = λ t h m. more-links (d .links) e (pathSize (d .path) t) (d .path) (t * 8) (k .ok .declared t h m);
+            declared = λ t h m. more-links (d .links) e (d .path) (t * 8) (pathSize (d .path) t) (k .ok .declared t h m);
           };
-      capacities = length-set (d .capacity) e c ∙ k .capacities;
-      accesses = k .accesses;
-      maxima = k .maxima;
-      paths = k .paths;
+      lengths = declare-lengths s d (rec.Link e c) (k .lengths);
     }
 
 -- A SESSION -----------------------------------------------------------------------------------------------------------
@@ -121,7 +99,7 @@ module _ (s : List ℕ) (d : Declared) (b a m n at : ℕ) (k : Kept d) (r : Reco
   new = copied 8 (d .path) (b * 8) s at
 
   path-new : (h : ℕ) → h < 8 → getD s (at + h) 0 ≡ getD new (b * 8 + h) 0
-  path-new h l = sym (copied-there 8 (d .path) (b * 8) s at h l (omega (arith, k .paths, r .0)))
+  path-new h l = sym (copied-there 8 (d .path) (b * 8) s at h l (omega (arith, k .lengths .path, r .0)))
 
   path-old : (t : ℕ) → (b ≡ t → ⊥) → (h : ℕ) → h < 8 → getD new (t * 8 + h) 0 ≡ getD (d .path) (t * 8 + h) 0
   path-old t f h l = copied-other 8 (d .path) (b * 8) s at (t * 8 + h) (side (order t b))
@@ -165,7 +143,7 @@ module _ (s : List ℕ) (d : Declared) (b a m n at : ℕ) (k : Kept d) (r : Reco
   line-at : (t : ℕ) → t < 32 → has t (put b (d .sessions)) ≡ 1 → Dec (b ≡ t) → aboveLine (getD (set (d .access) b a) t 0) (getD (set (d .maximum) b m) t 0) ≡ false
   line-at t h i (yes q) =
       subst (λ (v : ℕ). aboveLine (getD (set (d .access) b a) v 0) (getD (set (d .maximum) b m) v 0) ≡ false) q
-      (rw (getD-set-same (d .access) b a 0 (omega (arith, k .accesses, r .0)), getD-set-same (d .maximum) b m 0 (omega (arith, k .maxima, r .0))) line)
+      (rw (getD-set-same (d .access) b a 0 (omega (arith, k .lengths .access, r .0)), getD-set-same (d .maximum) b m 0 (omega (arith, k .lengths .maximum, r .0))) line)
   line-at t h i (no f) =
       rw (getD-set-other (d .access) b t a 0 (λ e. f (sym e)), getD-set-other (d .maximum) b t m 0 (λ e. f (sym e)))
       (k .ok .line t h (member-was b t (d .sessions) i f))
@@ -180,25 +158,19 @@ module _ (s : List ℕ) (d : Declared) (b a m n at : ℕ) (k : Kept d) (r : Reco
               sessions = put-lt 32 b (d .sessions) (r .0) (k .ok .sessions);
               capacity = k .ok .capacity;
               access = λ t h i.
-                  set-is (d .access) b a t (omega (arith, k .accesses, r .0)) (λ (v : ℕ). rateOk v ≡ true) (rate-ok a (r .1) (r .2))
+                  set-is (d .access) b a t (omega (arith, k .lengths .access, r .0)) (λ (v : ℕ). rateOk v ≡ true) (rate-passes a (r .1) (r .2))
                   (λ f. k .ok .access t h (member-was b t (d .sessions) i f));
               maximum = λ t h i.
-                  set-is (d .maximum) b m t (omega (arith, k .maxima, r .0)) (λ (v : ℕ). v ≤ 1000000) (r .3)
+                  set-is (d .maximum) b m t (omega (arith, k .lengths .maximum, r .0)) (λ (v : ℕ). v ≤ 1000000) (r .3)
                   (λ f. k .ok .maximum t h (member-was b t (d .sessions) i f));
               line = λ t h i. line-at t h i (ℕ-discrete b t);
               path = λ t h i. ok-at t h i (ℕ-discrete b t);
               declared = λ t h i. declared-at t h i (ℕ-discrete b t);
             };
-        capacities = k .capacities;
-        accesses = length-set (d .access) b a ∙ k .accesses;
-        maxima = length-set (d .maximum) b m ∙ k .maxima;
-        paths = copied-long 8 (d .path) (b * 8) s at ∙ k .paths;
+        lengths = declare-lengths s d (rec.Session b a m n at) (k .lengths);
       }
 
 -- ANY RECORD, ANY INPUT -----------------------------------------------------------------------------------------------
-
-not-taken : (r : Refusal) → verdict.Refused r ≡ verdict.Taken → ⊥
-not-taken r e = let z : _≡_ {A = ℕ} 0 1 = cc in omega arith
 
 record-kept : (s : List ℕ) (d : Declared) (x : Record) → Kept d → RecordOk s x → judging s d x ≡ verdict.Taken → Kept (declareOf s d x)
 unfolding judgeOf
@@ -218,30 +190,3 @@ record-kept s d (rec.Deliver p) k r t = absurd (not-taken refusal.KindNotTaken t
 pub declarations-declarable : (s : List ℕ) → Bytes s → Declarable (declarationsOf s .declared)
 unfolding declarationsOf
 declarations-declarable s bytes = run-keeps Kept call.Calculation (judging s) (declareOf s) s bytes (record-kept s) (length s) noneDeclared 0 0 none-kept .ok
-
-zeros : (n i : ℕ) → getD {A = ℕ} (replicate n 0) i 0 ≡ 0
-zeros zero i = refl
-zeros (suc n) zero = refl
-zeros (suc n) (suc i) = zeros n i
-
--- a link that is not declared has no capacity
-pub undeclared-none : (s : List ℕ) → Bytes s → (e : ℕ) → has e (declarationsOf s .declared .links) ≡ 0 → getD (declarationsOf s .declared .capacity) e 0 ≡ 0
-unfolding declarationsOf declareOf noneDeclared
-undeclared-none s bytes = run-keeps None call.Calculation (judging s) (declareOf s) s bytes (λ z x p o t. keeps z x p) (length s) noneDeclared 0 0 start
-  where
-    None : Declared → Type 0
-    None d = (e : ℕ) → has e (d .links) ≡ 0 → getD (d .capacity) e 0 ≡ 0
-
-    start : None noneDeclared
-    start e m = zeros 64 e
-
-    keeps : (z : Declared) (x : Record) → None z → None (declareOf s z x)
-    keeps z (rec.Link e c) p i m = other (ℕ-discrete e i)
-      where
-        other : Dec (e ≡ i) → getD (set (z .capacity) e c) i 0 ≡ 0
-        other (yes q) = absurd (omega (arith, m, ap (λ (v : ℕ). has v (put e (z .links))) (sym q), has-put-same e (z .links)))
-        other (no n) = getD-set-other (z .capacity) e i c 0 (λ q. n (sym q)) ∙ p i (sym (has-put-other e i (z .links) n) ∙ m)
-    keeps z (rec.Session b a m n at) p i k = p i k
-    keeps z (rec.Leave u) p i k = p i k
-    keeps z (rec.Change u m) p i k = p i k
-    keeps z (rec.Deliver q) p i k = p i k

@@ -1,21 +1,23 @@
 -- 02, §3: "Two sets have equal output exactly when they are equal".
 -- Assumes nothing.
-use mathlib.Core.Bool.{Bool, cond, false, true}
-use mathlib.Core.List.{List, [], _∷_, _++_}
+use mathlib.Core.Bool.{true}
+use mathlib.Core.List.{List, _++_}
 use mathlib.Core.Path.{_≡_, ap, ap₂, refl, subst, sym, _∙_}
-use Prim.Native.Nat.{ℕ, zero, suc, _+_, _<_}
+use Prim.Native.Nat.{ℕ, _<_}
 use native.Mathlib.Omega.{arith}
 use lib.Dec.{ltb}
 use Rattle.sessions.specs.Set.{has, hasOf}
 use Rattle.sessions.proofs.Members.{is-in}
 use Rattle.fairness.specs.Figure1.{values}
 use Rattle.fairness.specs.Sum.{part}
+use Rattle.fairness.proofs.Running.{values-same}
 use Rattle.fairness.proofs.Sums.{sum-eq}
 use Rattle.search.specs.Crossing.{byteAt}
 use Rattle.declarations.specs.Declaring.{declarationsOf}
 use Rattle.declarations.specs.declared.Declared.{Declared}
 use Rattle.writing.specs.Sets.{Declarable, SameSet}
-use Rattle.writing.specs.Writing.{linkOf, linkRecord, pathSize, recordsFrom, recordsOf, sessionOf}
+use Rattle.writing.specs.Writing.{linkFrom, linkRecord, pathSize, recordsOf, sessionFrom}
+use Rattle.writing.proofs.MoreRecords.{records-same}
 use Rattle.writing.proofs.ReadBack.{read-back}
 
 -- EQUAL SETS ----------------------------------------------------------------------------------------------------------
@@ -44,34 +46,16 @@ same-then d y z r q =
 
 -- EQUAL RECORDS -------------------------------------------------------------------------------------------------------
 
-records-same : (k b : ℕ) (test u : ℕ → Bool) (f g : ℕ → List ℕ) → ((i : ℕ) → test i ≡ u i) → ((i : ℕ) → i < b + k → test i ≡ true → f i ≡ g i)
-    → recordsFrom k b test f ≡ recordsFrom k b u g
-unfolding recordsFrom
-records-same zero b test u f g p q = refl
-records-same (suc k) b test u f g p q = ap₂ _++_ (one (test b) (u b) (p b) (q b (omega arith))) (records-same k (suc b) test u f g p (λ i h. q i (omega arith)))
-  where
-    same : (t : Bool) → (t ≡ true → f b ≡ g b) → cond t (f b) [] ≡ cond t (g b) []
-    same true r = r refl
-    same false r = refl
-
-    one : (t v : Bool) → t ≡ v → (t ≡ true → f b ≡ g b) → cond t (f b) [] ≡ cond v (g b) []
-    one t v e r = same t r ∙ ap (λ (y : Bool). cond y (g b) []) e
-
-pub values-same : (i n : ℕ) (f g : ℕ → ℕ) → ((h : ℕ) → h < i + n → f h ≡ g h) → values i n f ≡ values i n g
-unfolding values
-values-same i zero f g p = refl
-values-same i (suc n) f g p = ap₂ _∷_ (p i (omega arith)) (values-same (suc i) n f g (λ h l. p h (omega arith)))
-
 -- paths of the same bytes have the same size
 pub size-same : (path other : List ℕ) (t u : ℕ) → ((h : ℕ) → h < 8 → byteAt path t h ≡ byteAt other u h) → pathSize path t ≡ pathSize other u
 unfolding pathSize
 size-same path other t u same = sum-eq 8 _ _ (λ h k. ap (λ (v : ℕ). part (ltb v 64) 1) (same h k))
 
 module _ (d z : Declared) (r : SameSet d z) where
-  links-same : (e : ℕ) → e < 64 → hasOf e (d .links) ≡ true → linkOf d e ≡ linkOf z e
+  links-same : (e : ℕ) → e < 64 → hasOf e (d .links) ≡ true → linkFrom (d .capacity) e ≡ linkFrom (z .capacity) e
   links-same e h t = ap (linkRecord e) (r .capacity e h (is-in (d .links) e t))
 
-  sessions-same : (t : ℕ) → t < 32 → hasOf t (d .sessions) ≡ true → sessionOf d t ≡ sessionOf z t
+  sessions-same : (t : ℕ) → t < 32 → hasOf t (d .sessions) ≡ true → sessionFrom (d .access) (d .maximum) (d .path) t ≡ sessionFrom (z .access) (z .maximum) (z .path) t
   sessions-same t h i =
       let m = is-in (d .sessions) t i in
       let path : values 0 8 (byteAt (d .path) t) ≡ values 0 8 (byteAt (z .path) t) =
@@ -82,8 +66,8 @@ module _ (d z : Declared) (r : SameSet d z) where
   unfolding recordsOf
   same-output =
       ap₂ _++_
-      (records-same 64 0 (λ e. hasOf e (d .links)) (λ e. hasOf e (z .links)) (linkOf d) (linkOf z) (λ e. ap (hasOf e) (r .links)) (λ e h t. links-same e (omega arith) t))
-      (records-same 32 0 (λ t. hasOf t (d .sessions)) (λ t. hasOf t (z .sessions)) (sessionOf d) (sessionOf z) (λ t. ap (hasOf t) (r .sessions)) (λ t h i. sessions-same t (omega arith) i))
+      (records-same 64 0 (λ e. hasOf e (d .links)) (λ e. hasOf e (z .links)) (linkFrom (d .capacity)) (linkFrom (z .capacity)) (λ e. ap (hasOf e) (r .links)) (λ e h t. links-same e (omega arith) t))
+      (records-same 32 0 (λ t. hasOf t (d .sessions)) (λ t. hasOf t (z .sessions)) (sessionFrom (d .access) (d .maximum) (d .path)) (sessionFrom (z .access) (z .maximum) (z .path)) (λ t. ap (hasOf t) (r .sessions)) (λ t h i. sessions-same t (omega arith) i))
 
 -- a set is read back from its output, so sets of one output are equal
 pub output-same : (d z : Declared) → Declarable d → Declarable z → recordsOf d ≡ recordsOf z → SameSet d z

@@ -9,12 +9,13 @@ use lib.ListN.{getD}
 use Rattle.sessions.specs.Set.{hasOf}
 use Rattle.sessions.proofs.Members.{is-in}
 use Rattle.fairness.specs.Figure1.{values}
+use Rattle.fairness.proofs.Running.{values-below}
 use Rattle.records.specs.Format.{Bytes}
 use Rattle.records.proofs.ReadRecords.{path-size}
 use Rattle.search.specs.Crossing.{byteAt}
 use Rattle.declarations.specs.declared.Declared.{Declared}
 use Rattle.writing.specs.Sets.{Declarable}
-use Rattle.writing.specs.Writing.{bytes4, linkOf, pathSize, recordsFrom, recordsOf, sessionOf}
+use Rattle.writing.specs.Writing.{bytes4, linkFrom, linkRecords, pathSize, recordsFrom, recordsOf, sessionFrom, sessionRecords}
 use Rattle.writing.proofs.Paths.{path-byte}
 use Rattle.writing.proofs.ReadRecords.{rate-lt}
 
@@ -38,11 +39,6 @@ four n h =
     one-more (n / 256 / 256 / 256) (n / 256 / 256 % 256 ∷ n / 256 % 256 ∷ n % 256 ∷ []) a
     (one-more (n / 256 / 256 % 256) (n / 256 % 256 ∷ n % 256 ∷ []) b (one-more (n / 256 % 256) (n % 256 ∷ []) c (one-more (n % 256) [] d none)))
 
-listed : (i n : ℕ) (f : ℕ → ℕ) → ((h : ℕ) → h < i + n → f h < 256) → Bytes (values i n f)
-unfolding values
-listed i zero f h = none
-listed i (suc n) f h = one-more (f i) (values (suc i) n f) (h i (omega arith)) (listed (suc i) n f (λ j l. h j (omega arith)))
-
 records-bytes : (k b : ℕ) (test : ℕ → Bool) (f : ℕ → List ℕ) → ((i : ℕ) → i < b + k → test i ≡ true → Bytes (f i)) → Bytes (recordsFrom k b test f)
 unfolding recordsFrom
 records-bytes zero b test f h = none
@@ -54,12 +50,12 @@ records-bytes (suc k) b test f h =
     first false g = none
 
 module _ (d : Declared) (ok : Declarable d) where
-  link-bytes : (e : ℕ) → e < 64 → hasOf e (d .links) ≡ true → Bytes (linkOf d e)
+  link-bytes : (e : ℕ) → e < 64 → hasOf e (d .links) ≡ true → Bytes (linkFrom (d .capacity) e)
   link-bytes e h t =
       let c = getD (d .capacity) e 0 in
       one-more 1 (e ∷ bytes4 c) (omega arith) (one-more e (bytes4 c) (omega arith) (four c (rate-lt c (ok .capacity e h (is-in (d .links) e t)))))
 
-  session-bytes : (t : ℕ) → t < 32 → hasOf t (d .sessions) ≡ true → Bytes (sessionOf d t)
+  session-bytes : (t : ℕ) → t < 32 → hasOf t (d .sessions) ≡ true → Bytes (sessionFrom (d .access) (d .maximum) (d .path) t)
   session-bytes t h i =
       let m = is-in (d .sessions) t i in
       let size = path-size (d .path) (t * 8) (pathSize (d .path) t) (ok .path t h m) .1 in
@@ -72,11 +68,11 @@ module _ (d : Declared) (ok : Declarable d) where
       (both (bytes4 a) (bytes4 b ++ (n ∷ path)) (four a (rate-lt a (ok .access t h m)))
       (both (bytes4 b) (n ∷ path) (four b (omega (arith, ok .maximum t h m)))
       (one-more n path (omega arith)
-      (listed 0 8 (byteAt (d .path) t) (λ j l. path-byte (d .path) (t * 8) n (ok .path t h m) j (omega arith)))))))
+      (values-below 0 8 (byteAt (d .path) t) 256 (omega arith) (λ j l. path-byte (d .path) (t * 8) n (ok .path t h m) j (omega arith)))))))
 
   pub output-bytes : Bytes (recordsOf d)
   unfolding recordsOf
   output-bytes =
-      both (recordsFrom 64 0 (λ e. hasOf e (d .links)) (linkOf d)) (recordsFrom 32 0 (λ t. hasOf t (d .sessions)) (sessionOf d))
-      (records-bytes 64 0 (λ e. hasOf e (d .links)) (linkOf d) (λ e h t. link-bytes e (omega arith) t))
-      (records-bytes 32 0 (λ t. hasOf t (d .sessions)) (sessionOf d) (λ t h i. session-bytes t (omega arith) i))
+      both (linkRecords (d .links) (d .capacity)) (sessionRecords (d .sessions) (d .access) (d .maximum) (d .path))
+      (records-bytes 64 0 (λ e. hasOf e (d .links)) (linkFrom (d .capacity)) (λ e h t. link-bytes e (omega arith) t))
+      (records-bytes 32 0 (λ t. hasOf t (d .sessions)) (sessionFrom (d .access) (d .maximum) (d .path)) (λ t h i. session-bytes t (omega arith) i))

@@ -13,7 +13,7 @@ use Rattle.records.specs.Format.{be2, sizeAt}
 use Rattle.search.specs.Crossing.{byteAt}
 use Rattle.declarations.specs.declared.Declared.{Declared}
 use Rattle.writing.specs.Order.{inOrder, risesFrom}
-use Rattle.writing.specs.Writing.{linkOf, pathSize, recordsFrom, recordsOf, sessionOf}
+use Rattle.writing.specs.Writing.{linkFrom, linkRecords, pathSize, recordsFrom, recordsOf, sessionFrom, sessionRecords}
 use Rattle.writing.proofs.Appending.{Stands, stands}
 use Rattle.writing.proofs.ReadRecords.{link-size, session-size}
 
@@ -82,21 +82,21 @@ output-in-order d =
     let s = links ++ sessions in
     let zero-fuel : length s ≡ length s - 0 = omega arith in
     subst (λ (v : ℕ). risesFrom v s 0 0 ≡ true) (sym zero-fuel)
-    (rises-over s 1 64 (λ e. hasOf e (d .links)) (linkOf d)
+    (rises-over s 1 64 (λ e. hasOf e (d .links)) (linkFrom (d .capacity))
     (λ b before behind e.
-    let there = stands s before (linkOf d b) behind e in
-    (key-of s (length before) 1 b (linkOf d b) there (omega arith) refl refl, link-size s (length before) b (getD (d .capacity) b 0) there, omega arith))
+    let there = stands s before (linkFrom (d .capacity) b) behind e in
+    (key-of s (length before) 1 b (linkFrom (d .capacity) b) there (omega arith) refl refl, link-size s (length before) b (getD (d .capacity) b 0) there, omega arith))
     64 0 0 [] sessions 0 (omega arith) (omega arith) refl
     (λ m next p q.
-    rises-over s 2 32 (λ t. hasOf t (d .sessions)) (sessionOf d)
+    rises-over s 2 32 (λ t. hasOf t (d .sessions)) (sessionFrom (d .access) (d .maximum) (d .path))
     (λ b before behind e.
-    let there = stands s before (sessionOf d b) behind e in
-    (key-of s (length before) 2 b (sessionOf d b) there (omega arith) refl refl, session-size s (length before) b (getD (d .access) b 0) (getD (d .maximum) b 0) (pathSize (d .path) b) (byteAt (d .path) b) there, omega arith))
+    let there = stands s before (sessionFrom (d .access) (d .maximum) (d .path) b) behind e in
+    (key-of s (length before) 2 b (sessionFrom (d .access) (d .maximum) (d .path) b) there (omega arith) refl refl, session-size s (length before) b (getD (d .access) b 0) (getD (d .maximum) b 0) (pathSize (d .path) b) (byteAt (d .path) b) there, omega arith))
     32 0 m links [] next p (omega arith) (ap (λ (l : List ℕ). links ++ l) (sym (append-nil sessions)))
     (λ i y g h. rises-end s i (length s) y (omega arith))))
   where
     links : List ℕ
-    links = recordsFrom 64 0 (λ e. hasOf e (d .links)) (linkOf d)
+    links = linkRecords (d .links) (d .capacity)
 
     sessions : List ℕ
-    sessions = recordsFrom 32 0 (λ t. hasOf t (d .sessions)) (sessionOf d)
+    sessions = sessionRecords (d .sessions) (d .access) (d .maximum) (d .path)

@@ -1,57 +1,24 @@
 -- A record that was written is read as what it was written from, by whichever call takes its kind.
 -- Assumes nothing.
-use mathlib.Core.Bool.{Bool, _&&_, _||_, not, true}
+use mathlib.Core.Bool.{true}
 use mathlib.Core.List.{List, [], _∷_, _++_}
-use mathlib.Core.Path.{_≡_, ap, ap₂, refl, _∙_}
-use Prim.Native.Nat.{ℕ, zero, suc, _+_, _/_, _%_, _<_, _≤_}
+use mathlib.Core.Path.{_≡_, ap, refl, _∙_}
+use Prim.Native.Nat.{ℕ, _+_, _/_, _%_, _<_, _≤_}
 use native.Mathlib.Omega.{arith}
-use borrow.Author.Tests.{le-leb, leb-true, lt-ltb}
-use lib.Dec.{eqb, leb, ltb}
+use borrow.Author.Tests.{le-leb, lt-ltb}
+use lib.Dec.{leb}
 use lib.ListN.{getD, length}
 use lib.Seq.{getD-append-add}
-use Rattle.fractions.proofs.Cases.{and-both}
-use Rattle.sessions.specs.Set.{hasOf}
 use Rattle.fairness.specs.Figure1.{values}
 use Rattle.fairness.proofs.Running.{values-at}
-use Rattle.records.specs.Format.{all, be4, bodyAt, bodyOf, differ, isNew, linkAt, linksOk, pathOk, rateOk, readAt, restOk, sessionAt, sizeAt, takesOf}
+use Rattle.records.specs.Format.{be4, bodyAt, bodyOf, linkAt, pathOk, rateOk, readAt, sessionAt, sizeAt, takesOf}
 use Rattle.records.specs.declared.Call.{Call}
 use Rattle.records.specs.declared.Call.the-variants as call
 use Rattle.records.specs.declared.Read.the-variants as read
 use Rattle.records.specs.declared.Record.the-variants as rec
-use Rattle.declarations.specs.Declaring.{pathDeclared}
+use Rattle.records.proofs.Rates.{rate-is}
 use Rattle.writing.specs.Writing.{bytes4, linkRecord, sessionRecord}
 use Rattle.writing.proofs.Appending.{Stands}
-
--- A PATH AT ANOTHER PLACE ---------------------------------------------------------------------------------------------
-
-all-same : (n : ℕ) (f g : ℕ → Bool) → ((i : ℕ) → i < n → f i ≡ g i) → all n f ≡ all n g
-unfolding all
-all-same zero f g h = refl
-all-same (suc n) f g h = ap₂ _&&_ (all-same n f g (λ i l. h i (omega arith))) (h n (omega arith))
-
-module _ (s : List ℕ) (at : ℕ) (l : List ℕ) (from : ℕ) (same : (h : ℕ) → h < 8 → getD s (at + h) 0 ≡ getD l (from + h) 0) where
-  -- the test of refusal 6
-  pub path-same : (n : ℕ) → n ≤ 8 → pathOk s at n ≡ pathOk l from n
-  unfolding pathOk linksOk differ isNew restOk
-  path-same n k =
-      rw (
-        all-same n (λ h. ltb (getD s (at + h) 0) 64) (λ h. ltb (getD l (from + h) 0) 64) (λ h i. ap (λ (v : ℕ). ltb v 64) (same h (omega arith))),
-        all-same n (λ h. isNew s at h (getD s (at + h) 0)) (λ h. isNew l from h (getD l (from + h) 0)) (λ h i. new h (omega arith)),
-        all-same 8 (λ h. ltb h n || eqb (getD s (at + h) 0) 255) (λ h. ltb h n || eqb (getD l (from + h) 0) 255)
-            (λ h i. ap (λ (v : ℕ). ltb h n || eqb v 255) (same h i)),
-      )
-      refl
-    where
-      new : (h : ℕ) → h < 8 → isNew s at h (getD s (at + h) 0) ≡ isNew l from h (getD l (from + h) 0)
-      new h i =
-          ap (isNew s at h) (same h i)
-          ∙ all-same h (λ g. not (eqb (getD s (at + g) 0) (getD l (from + h) 0))) (λ g. not (eqb (getD l (from + g) 0) (getD l (from + h) 0)))
-          (λ g j. ap (λ (v : ℕ). not (eqb v (getD l (from + h) 0))) (same g (omega arith)))
-
-  -- and of refusal 8
-  pub declared-same : (links n : ℕ) → n ≤ 8 → pathDeclared links s at n ≡ pathDeclared links l from n
-  unfolding pathDeclared
-  declared-same links n k = all-same n _ _ (λ h i. ap (λ (v : ℕ). hasOf v links) (same h (omega arith)))
 
 -- NUMBERS -------------------------------------------------------------------------------------------------------------
 
@@ -64,7 +31,7 @@ number-back s at n h a b c d = omega (arith, a, b, c, d)
 
 -- a rate that is in range is below 2 ^ 32
 pub rate-lt : (n : ℕ) → rateOk n ≡ true → n < 4294967296
-rate-lt n e = omega (arith, leb-true n 1000000 (and-both (ltb 0 n) (leb n 1000000) e .1))
+rate-lt n e = omega (arith, rate-is n e .1)
 
 takes-link : (c : Call) → takesOf c 1 ≡ true
 takes-link call.Calculation = refl

@@ -7,32 +7,28 @@ use mathlib.Core.Logic.{_⊎_, inl, inr}
 use mathlib.Core.Path.{_≡_, ap, ap₂, refl, sym, _∙_}
 use Prim.Native.Nat.{ℕ, zero, suc, _+_, _-_, _*_, _<_, _≤_}
 use native.Mathlib.Omega.{arith}
-use lib.Dec.{eqb}
-use lib.ListN.{drop, drop-of-length-le, getD, length, length-set}
+use lib.ListN.{drop, drop-of-length-le, getD, length}
 use lib.Seq.{getD-set-other, getD-set-same}
 use Rattle.fractions.proofs.Cases.{order}
 use Rattle.sessions.specs.Set.{has, hasOf}
-use Rattle.sessions.proofs.Members.{has-put-other, has-put-same}
+use Rattle.sessions.proofs.Members.{has-put-other, has-put-same, in-is, out-is}
 use Rattle.fairness.specs.Figure1.{values}
+use Rattle.fairness.proofs.Running.{values-same}
 use Rattle.records.specs.Format.{pathOk}
 use Rattle.records.specs.declared.Record.{Record}
 use Rattle.records.specs.declared.Record.the-variants as rec
 use Rattle.search.specs.Crossing.{byteAt}
 use Rattle.declarations.specs.Declaring.{declareOf}
 use Rattle.declarations.specs.declared.Declared.{Declared}
-use Rattle.writing.specs.Writing.{linkOf, linkRecord, pathSize, recordsFrom, sessionOf, sessionRecord}
-use Rattle.writing.proofs.EqualOutput.{values-same}
+use Rattle.declarations.proofs.Copied.{copied-other, copied-there}
+use Rattle.declarations.proofs.KeepsLengths.{Lengths, declare-lengths}
+use Rattle.writing.specs.Writing.{linkFrom, linkRecord, pathSize, recordsFrom, sessionFrom, sessionRecord}
+use Rattle.writing.proofs.MoreRecords.{records-none}
 use Rattle.writing.proofs.Paths.{path-size-is}
-use Rattle.writing.proofs.Copied.{copied-long, copied-other, copied-there}
 
 -- RECORDS BY RISING NUMBER --------------------------------------------------------------------------------------------
 
 module _ (test : ℕ → Bool) (f : ℕ → List ℕ) where
-  records-none : (k b : ℕ) → ((i : ℕ) → b ≤ i → i < b + k → test i ≡ false) → recordsFrom k b test f ≡ []
-  unfolding recordsFrom
-  records-none zero b none = refl
-  records-none (suc k) b none = rw (none b (omega arith) (omega arith)) (records-none k (suc b) (λ i h l. none i (omega arith) (omega arith)))
-
   -- none passes before e, and e does
   records-first : (k b e : ℕ) → b ≤ e → e < b + k → ((i : ℕ) → b ≤ i → i < e → test i ≡ false) → test e ≡ true
       → recordsFrom k b test f ≡ f e ++ recordsFrom (b + k - suc e) (suc e) test f
@@ -61,10 +57,7 @@ module _ (test : ℕ → Bool) (f : ℕ → List ℕ) where
 pub record Open (z : Declared) (low : ℕ) : Type 0 where
   pub links : (e : ℕ) → low ≤ 256 + e → has e (z .links) ≡ 0
   pub sessions : (t : ℕ) → low ≤ 512 + t → has t (z .sessions) ≡ 0
-  pub capacities : length (z .capacity) ≡ 64
-  pub accesses : length (z .access) ≡ 32
-  pub maxima : length (z .maximum) ≡ 32
-  pub paths : length (z .path) ≡ 256
+  pub lengths : Lengths z
 
 -- the records from a place on are those of d from `low` on, and what is below `low` stays as it was in z
 pub record Rest (s : List ℕ) (z d : Declared) (low at : ℕ) : Type 0 where
@@ -75,14 +68,8 @@ pub record Rest (s : List ℕ) (z d : Declared) (low at : ℕ) : Type 0 where
   pub maximum : (t : ℕ) → 512 + t < low → getD (d .maximum) t 0 ≡ getD (z .maximum) t 0
   pub path : (t : ℕ) → 512 + t < low → (h : ℕ) → h < 8 → byteAt (d .path) t h ≡ byteAt (z .path) t h
   pub bytes : drop at s
-      ≡ recordsFrom (64 - (low - 256)) (low - 256) (λ e. hasOf e (d .links)) (linkOf d)
-      ++ recordsFrom (32 - (low - 512)) (low - 512) (λ t. hasOf t (d .sessions)) (sessionOf d)
-
-not-in : (w i : ℕ) → has i w ≡ 0 → hasOf i w ≡ false
-not-in w i q = ap (λ (v : ℕ). eqb v 1) q
-
-yes-in : (w i : ℕ) → has i w ≡ 1 → hasOf i w ≡ true
-yes-in w i q = ap (λ (v : ℕ). eqb v 1) q
+      ≡ recordsFrom (64 - (low - 256)) (low - 256) (λ e. hasOf e (d .links)) (linkFrom (d .capacity))
+      ++ recordsFrom (32 - (low - 512)) (low - 512) (λ t. hasOf t (d .sessions)) (sessionFrom (d .access) (d .maximum) (d .path))
 
 -- the end of the input
 pub rest-end : (s : List ℕ) (z : Declared) (low at : ℕ) → length s ≤ at → Open z low → Rest s z z low at
@@ -97,8 +84,8 @@ rest-end s z low at h o =
       bytes =
           drop-of-length-le s h
           ∙ ap₂ _++_
-          (sym (records-none (λ e. hasOf e (z .links)) (linkOf z) (64 - (low - 256)) (low - 256) (λ e p q. not-in (z .links) e (o .links e (omega arith)))))
-          (sym (records-none (λ t. hasOf t (z .sessions)) (sessionOf z) (32 - (low - 512)) (low - 512) (λ t p q. not-in (z .sessions) t (o .sessions t (omega arith)))));
+          (sym (records-none (linkFrom (z .capacity)) (64 - (low - 256)) (low - 256) (λ e. hasOf e (z .links)) (λ e p q. out-is (z .links) e (o .links e (omega arith)))))
+          (sym (records-none (sessionFrom (z .access) (z .maximum) (z .path)) (32 - (low - 512)) (low - 512) (λ t. hasOf t (z .sessions)) (λ t p q. out-is (z .sessions) t (o .sessions t (omega arith)))));
     }
 
 -- A LINK'S RECORD -----------------------------------------------------------------------------------------------------
@@ -110,10 +97,7 @@ module _ (s : List ℕ) (z : Declared) (low at e c : ℕ) (low-e : e < 64) (rise
       record {
         links = λ i k. has-put-other e i (z .links) (λ q. omega arith) ∙ o .links i (omega arith);
         sessions = λ t k. o .sessions t (omega arith);
-        capacities = length-set (z .capacity) e c ∙ o .capacities;
-        accesses = o .accesses;
-        maxima = o .maxima;
-        paths = o .paths;
+        lengths = declare-lengths s z (rec.Link e c) (o .lengths);
       }
 
   module _ (d : Declared) (r : Rest s (declareOf s z (rec.Link e c)) d (257 + e) (at + 6))
@@ -122,19 +106,19 @@ module _ (s : List ℕ) (z : Declared) (low at e c : ℕ) (low-e : e < 64) (rise
     link-test i = hasOf i (d .links)
 
     abbrev behind : List ℕ
-    behind = recordsFrom (32 - (low - 512)) (low - 512) (λ t. hasOf t (d .sessions)) (sessionOf d)
+    behind = recordsFrom (32 - (low - 512)) (low - 512) (λ t. hasOf t (d .sessions)) (sessionFrom (d .access) (d .maximum) (d .path))
 
-    link-first : recordsFrom (64 - (low - 256)) (low - 256) link-test (linkOf d) ≡ linkRecord e c ++ recordsFrom (63 - e) (suc e) link-test (linkOf d)
+    link-first : recordsFrom (64 - (low - 256)) (low - 256) link-test (linkFrom (d .capacity)) ≡ linkRecord e c ++ recordsFrom (63 - e) (suc e) link-test (linkFrom (d .capacity))
     unfolding declareOf
     link-first =
         let b = low - 256 in
         let left : b + (64 - b) - suc e ≡ 63 - e = omega arith in
-        let member = yes-in (d .links) e (r .links e (omega arith) ∙ has-put-same e (z .links)) in
-        let value : getD (d .capacity) e 0 ≡ c = r .capacity e (omega arith) ∙ getD-set-same (z .capacity) e c 0 (omega (arith, o .capacities)) in
-        records-first link-test (linkOf d) (64 - b) b e (omega arith) (omega arith)
-        (λ i p q. not-in (d .links) i (r .links i (omega arith) ∙ has-put-other e i (z .links) (λ f. omega (arith, f)) ∙ o .links i (omega arith)))
+        let member = in-is (d .links) e (r .links e (omega arith) ∙ has-put-same e (z .links)) in
+        let value : getD (d .capacity) e 0 ≡ c = r .capacity e (omega arith) ∙ getD-set-same (z .capacity) e c 0 (omega (arith, o .lengths .capacity)) in
+        records-first link-test (linkFrom (d .capacity)) (64 - b) b e (omega arith) (omega arith)
+        (λ i p q. out-is (d .links) i (r .links i (omega arith) ∙ has-put-other e i (z .links) (λ f. omega (arith, f)) ∙ o .links i (omega arith)))
         member
-        ∙ ap₂ (λ (v k : ℕ). linkRecord e v ++ recordsFrom k (suc e) link-test (linkOf d)) value left
+        ∙ ap₂ (λ (v k : ℕ). linkRecord e v ++ recordsFrom k (suc e) link-test (linkFrom (d .capacity))) value left
 
     pub link-rest : Rest s z d low at
     unfolding declareOf
@@ -150,10 +134,10 @@ module _ (s : List ℕ) (z : Declared) (low at e c : ℕ) (low-e : e < 64) (rise
               let a : 64 - (257 + e - 256) ≡ 63 - e = omega arith in
               let b : 257 + e - 256 ≡ suc e = omega arith in
               let g : 257 + e - 512 ≡ low - 512 = omega arith in
-              let tail : drop (at + 6) s ≡ recordsFrom (63 - e) (suc e) link-test (linkOf d) ++ behind = r .bytes ∙ rw (a, b, g) refl in
+              let tail : drop (at + 6) s ≡ recordsFrom (63 - e) (suc e) link-test (linkFrom (d .capacity)) ++ behind = r .bytes ∙ rw (a, b, g) refl in
               here
               ∙ ap (λ (l : List ℕ). linkRecord e c ++ l) tail
-              ∙ sym (append-assoc (linkRecord e c) (recordsFrom (63 - e) (suc e) link-test (linkOf d)) behind)
+              ∙ sym (append-assoc (linkRecord e c) (recordsFrom (63 - e) (suc e) link-test (linkFrom (d .capacity))) behind)
               ∙ ap (λ (l : List ℕ). l ++ behind) (sym link-first);
         }
 
@@ -169,10 +153,7 @@ module _ (s : List ℕ) (z : Declared) (low at t a m n : ℕ) (low-t : t < 32) (
       record {
         links = λ i k. o .links i (omega arith);
         sessions = λ u k. has-put-other t u (z .sessions) (λ q. omega arith) ∙ o .sessions u (omega arith);
-        capacities = o .capacities;
-        accesses = length-set (z .access) t a ∙ o .accesses;
-        maxima = length-set (z .maximum) t m ∙ o .maxima;
-        paths = copied-long 8 (z .path) (t * 8) s (at + 11) ∙ o .paths;
+        lengths = declare-lengths s z session (o .lengths);
       }
 
   module _ (d : Declared) (ok : pathOk s (at + 11) n ≡ true) (r : Rest s (declareOf s z session) d (513 + t) (at + 19))
@@ -182,35 +163,35 @@ module _ (s : List ℕ) (z : Declared) (low at t a m n : ℕ) (low-t : t < 32) (
 
     path-is : (h : ℕ) → h < 8 → byteAt (d .path) t h ≡ getD s (at + 11 + h) 0
     unfolding declareOf
-    path-is h k = r .path t (omega arith) h k ∙ copied-there 8 (z .path) (t * 8) s (at + 11) h k (omega (arith, o .paths))
+    path-is h k = r .path t (omega arith) h k ∙ copied-there 8 (z .path) (t * 8) s (at + 11) h k (omega (arith, o .lengths .path))
 
-    session-is : sessionOf d t ≡ sessionRecord t a m n (λ h. getD s (at + 11 + h) 0)
+    session-is : sessionFrom (d .access) (d .maximum) (d .path) t ≡ sessionRecord t a m n (λ h. getD s (at + 11 + h) 0)
     unfolding declareOf
     session-is =
-        let access : getD (d .access) t 0 ≡ a = r .access t (omega arith) ∙ getD-set-same (z .access) t a 0 (omega (arith, o .accesses)) in
-        let maximum : getD (d .maximum) t 0 ≡ m = r .maximum t (omega arith) ∙ getD-set-same (z .maximum) t m 0 (omega (arith, o .maxima)) in
+        let access : getD (d .access) t 0 ≡ a = r .access t (omega arith) ∙ getD-set-same (z .access) t a 0 (omega (arith, o .lengths .access)) in
+        let maximum : getD (d .maximum) t 0 ≡ m = r .maximum t (omega arith) ∙ getD-set-same (z .maximum) t m 0 (omega (arith, o .lengths .maximum)) in
         let size : pathSize (d .path) t ≡ n = path-size-is s (at + 11) n (d .path) t ok path-is in
         let path : values 0 8 (byteAt (d .path) t) ≡ values 0 8 (λ h. getD s (at + 11 + h) 0) =
         values-same 0 8 (byteAt (d .path) t) (λ h. getD s (at + 11 + h) 0) (λ h k. path-is h (omega arith)) in
         rw (access, maximum, size, path) refl
 
-    session-first : recordsFrom (32 - (low - 512)) (low - 512) session-test (sessionOf d)
-        ≡ sessionRecord t a m n (λ h. getD s (at + 11 + h) 0) ++ recordsFrom (31 - t) (suc t) session-test (sessionOf d)
+    session-first : recordsFrom (32 - (low - 512)) (low - 512) session-test (sessionFrom (d .access) (d .maximum) (d .path))
+        ≡ sessionRecord t a m n (λ h. getD s (at + 11 + h) 0) ++ recordsFrom (31 - t) (suc t) session-test (sessionFrom (d .access) (d .maximum) (d .path))
     unfolding declareOf
     session-first =
         let b = low - 512 in
         let left : b + (32 - b) - suc t ≡ 31 - t = omega arith in
-        let member = yes-in (d .sessions) t (r .sessions t (omega arith) ∙ has-put-same t (z .sessions)) in
-        records-first session-test (sessionOf d) (32 - b) b t (omega arith) (omega arith)
-        (λ u p q. not-in (d .sessions) u (r .sessions u (omega arith) ∙ has-put-other t u (z .sessions) (λ f. omega (arith, f)) ∙ o .sessions u (omega arith)))
+        let member = in-is (d .sessions) t (r .sessions t (omega arith) ∙ has-put-same t (z .sessions)) in
+        records-first session-test (sessionFrom (d .access) (d .maximum) (d .path)) (32 - b) b t (omega arith) (omega arith)
+        (λ u p q. out-is (d .sessions) u (r .sessions u (omega arith) ∙ has-put-other t u (z .sessions) (λ f. omega (arith, f)) ∙ o .sessions u (omega arith)))
         member
-        ∙ ap₂ (λ (l : List ℕ) (k : ℕ). l ++ recordsFrom k (suc t) session-test (sessionOf d)) session-is left
+        ∙ ap₂ (λ (l : List ℕ) (k : ℕ). l ++ recordsFrom k (suc t) session-test (sessionFrom (d .access) (d .maximum) (d .path))) session-is left
 
-    no-links : recordsFrom (64 - (low - 256)) (low - 256) (λ i. hasOf i (d .links)) (linkOf d) ≡ []
+    no-links : recordsFrom (64 - (low - 256)) (low - 256) (λ i. hasOf i (d .links)) (linkFrom (d .capacity)) ≡ []
     unfolding declareOf
     no-links =
-        records-none (λ i. hasOf i (d .links)) (linkOf d) (64 - (low - 256)) (low - 256)
-        (λ i p q. not-in (d .links) i (r .links i (omega arith) ∙ o .links i (omega arith)))
+        records-none (linkFrom (d .capacity)) (64 - (low - 256)) (low - 256) (λ i. hasOf i (d .links))
+        (λ i p q. out-is (d .links) i (r .links i (omega arith) ∙ o .links i (omega arith)))
 
     pub session-rest : Rest s z d low at
     unfolding declareOf recordsFrom
@@ -226,9 +207,9 @@ module _ (s : List ℕ) (z : Declared) (low at t a m n : ℕ) (low-t : t < 32) (
               let none : 64 - (513 + t - 256) ≡ 0 = omega arith in
               let left : 32 - (513 + t - 512) ≡ 31 - t = omega arith in
               let from : 513 + t - 512 ≡ suc t = omega arith in
-              let tail : drop (at + 19) s ≡ recordsFrom (31 - t) (suc t) session-test (sessionOf d) = r .bytes ∙ rw (none, left, from) refl in
+              let tail : drop (at + 19) s ≡ recordsFrom (31 - t) (suc t) session-test (sessionFrom (d .access) (d .maximum) (d .path)) = r .bytes ∙ rw (none, left, from) refl in
               here
               ∙ ap (λ (l : List ℕ). sessionRecord t a m n (λ h. getD s (at + 11 + h) 0) ++ l) tail
               ∙ sym session-first
-              ∙ ap (λ (l : List ℕ). l ++ recordsFrom (32 - (low - 512)) (low - 512) session-test (sessionOf d)) (sym no-links);
+              ∙ ap (λ (l : List ℕ). l ++ recordsFrom (32 - (low - 512)) (low - 512) session-test (sessionFrom (d .access) (d .maximum) (d .path))) (sym no-links);
         }

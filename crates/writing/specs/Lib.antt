@@ -1,4 +1,5 @@
--- The definitions that the theorems of writing cite.
+-- The definitions that the contracts and theorems of writing cite.
 pub mod Writing
+pub mod Written
 pub mod Sets
 pub mod Order

@@ -38,14 +38,22 @@ unfoldable pub recordsFrom : ℕ → ℕ → (ℕ → Bool) → (ℕ → List �
 recordsFrom zero b test record-of = []
 recordsFrom (suc k) b test record-of = cond (test b) (record-of b) [] ++ recordsFrom k (suc b) test record-of
 
--- the record of a link of d, and of a session
-abbrev pub linkOf : Declared → ℕ → List ℕ
-linkOf d e = linkRecord e (getD (d .capacity) e 0)
+-- the record of link e, where these are the capacities
+abbrev pub linkFrom : List ℕ → ℕ → List ℕ
+linkFrom capacity e = linkRecord e (getD capacity e 0)
 
-abbrev pub sessionOf : Declared → ℕ → List ℕ
-sessionOf d t = sessionRecord t (getD (d .access) t 0) (getD (d .maximum) t 0) (pathSize (d .path) t) (byteAt (d .path) t)
+-- the record of session t, where these are the access rates, the maxima and the paths
+abbrev pub sessionFrom : List ℕ → List ℕ → List ℕ → ℕ → List ℕ
+sessionFrom access maximum path t = sessionRecord t (getD access t 0) (getD maximum t 0) (pathSize path t) (byteAt path t)
+
+-- the records of the links of a word
+abbrev pub linkRecords : ℕ → List ℕ → List ℕ
+linkRecords links capacity = recordsFrom linkLimit 0 (λ e. hasOf e links) (linkFrom capacity)
+
+-- and of the sessions of a word
+abbrev pub sessionRecords : ℕ → List ℕ → List ℕ → List ℕ → List ℕ
+sessionRecords sessions access maximum path = recordsFrom sessionLimit 0 (λ t. hasOf t sessions) (sessionFrom access maximum path)
 
 -- "links, then sessions, by rising number"
 unfoldable pub recordsOf : Declared → List ℕ
-recordsOf d =
-    recordsFrom linkLimit 0 (λ e. hasOf e (d .links)) (linkOf d) ++ recordsFrom sessionLimit 0 (λ t. hasOf t (d .sessions)) (sessionOf d)
+recordsOf d = linkRecords (d .links) (d .capacity) ++ sessionRecords (d .sessions) (d .access) (d .maximum) (d .path)

@@ -2,9 +2,11 @@
 
 use crate::common::{plain_session, Random};
 use crate::random::{check_record, random_run, Seen};
+use crate::reading_back::read_back;
 use crate::world::{world, World};
+use crate::writing::written;
 use second::machine::table::{Table, NEVER_JOINED, YES};
-use second::machine::{passes_14, run, settled};
+use second::machine::{passes_14, run, settled, write};
 use second::making::ODD_NUMBERS;
 
 // Every field that exists in a table.
@@ -97,9 +99,12 @@ fn check_refused_14(mut table: Table) {
     assert_eq!((ran.taken, ran.refused.unwrap().number), (0, 14));
     assert!(table == before);
     assert_eq!(settled(&table).unwrap_err().number, 14);
+    assert_eq!(write(&table, &mut []).unwrap_err().number, 14);
 }
 
 fn check_ends(mut table: Table, world: &mut World) {
+    // 02, §3: what is written of a table that passes 14 is read elsewhere.
+    read_back(&written(&table));
     for _ in 0..60 {
         let record = world.event(&table);
         let before = table.clone();

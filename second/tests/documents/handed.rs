@@ -2,7 +2,7 @@
 
 use crate::common::{deliver, leave, link, plain_session, refused, taken};
 use second::machine::table::{Packet, Table, JOIN, LEAVE};
-use second::machine::{passes_14, run, settled, Fault, Ran};
+use second::machine::{passes_14, run, settled, write, Fault, Ran};
 
 // Links 0 of 10 and 1 of 20, session 0 over both at rest, session 1 over link 0 with its Join on
 // the way, session 2 over both gone again but for its Leave, about to reach link 1.
@@ -37,6 +37,12 @@ pub fn fails(table: Table, fault: Fault) {
         };
         assert_eq!(ran, all_refused);
         assert!(handed == table);
+    }
+    // 02, §3: 17 is tried after it.
+    for length in [0, 992] {
+        let mut output = vec![7; length];
+        assert_eq!(write(&table, &mut output).err(), refused(14, 0));
+        assert_eq!(output, vec![7; length]);
     }
 }
 

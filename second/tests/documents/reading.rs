@@ -23,6 +23,7 @@ fn numbers_of_the_refusals() {
     assert_eq!(Refusal::TooFine.number(), 12);
     assert_eq!(Refusal::SliceTooShort.number(), 15);
     assert_eq!(Refusal::MaximumAboveAccess.number(), 16);
+    assert_eq!(Refusal::ShorterThanOutput.number(), 17);
 }
 
 #[test]

@@ -3,12 +3,12 @@
 use mathlib.Core.List.{List}
 use mathlib.Core.Logic.{_⊎_, inl, inr}
 use mathlib.Core.Path.{_≡_, ap, refl, sym, _∙_}
-use Prim.Native.Nat.{ℕ, zero, suc, _+_, _-_, _<_, _≤_}
+use Prim.Native.Nat.{ℕ, zero, suc, _+_, _<_, _≤_}
 use native.Mathlib.Omega.{arith}
 use lib.ListN.{getD, length, length-set, set}
 use lib.Seq.{getD-set-other, getD-set-same}
 use Rattle.fractions.proofs.Cases.{last}
 use Rattle.declarations.specs.Declaring.{copied}
 
 pub copied-long : (k : ℕ) (l : List ℕ) (from : ℕ) (s : List ℕ) (at : ℕ) → length (copied k l from s at) ≡ length l
 unfolding copied

@@ -1,12 +1,11 @@
 -- The links and the active sessions that a table holds, as declarations of the calculation. w are the words of the table.
 -- Assumes nothing: definitions.
-use mathlib.Core.Bool.{Bool, cond}
+use mathlib.Core.Bool.{Bool, cond, true}
 use mathlib.Core.List.{List}
 use mathlib.Core.Path.{_≡_}
 use Prim.Native.Nat.{ℕ, zero, suc, _*_, _+_, _/_, _%_, _<_}
 use lib.Dec.{ltb}
 use lib.ListN.{getD}
-use Rattle.conditions.specs.Conditions.{Active}
 use Rattle.fairness.specs.Figure1.{values}
 use Rattle.declarations.specs.declared.Declared.{Declared}
 use Rattle.sessions.specs.Set.{hasOf, put}
@@ -21,9 +20,9 @@ pathByte w s h = cond (ltb h (hopsOf w s)) (stopOf w s h) 255
 pub record Declares (d : Declared) (w : List ℕ) : Type 0 where
   pub capacity : (e : ℕ) → e < 64 → getD (d .capacity) e 0 ≡ linkOf w e .capacity
   pub active : (s : ℕ) → s < 32 → hasOf s (d .sessions) ≡ sourceOf w s .active
-  pub access : (s : ℕ) → s < 32 → Active w s → getD (d .access) s 0 ≡ sourceOf w s .access
-  pub maximum : (s : ℕ) → s < 32 → Active w s → getD (d .maximum) s 0 ≡ sourceOf w s .maximum
-  pub path : (s h : ℕ) → s < 32 → h < 8 → Active w s → getD (d .path) (s * 8 + h) 0 ≡ pathByte w s h
+  pub access : (s : ℕ) → s < 32 → sourceOf w s .active ≡ true → getD (d .access) s 0 ≡ sourceOf w s .access
+  pub maximum : (s : ℕ) → s < 32 → sourceOf w s .active ≡ true → getD (d .maximum) s 0 ≡ sourceOf w s .maximum
+  pub path : (s h : ℕ) → s < 32 → h < 8 → sourceOf w s .active ≡ true → getD (d .path) (s * 8 + h) 0 ≡ pathByte w s h
 
 -- the numbers below n that pass a test, as a word
 unfoldable pub wordOf : ℕ → (ℕ → Bool) → ℕ

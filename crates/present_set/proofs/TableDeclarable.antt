@@ -5,42 +5,42 @@ use mathlib.Core.Bool.{false, true}
 use mathlib.Core.List.{List}
 use mathlib.Core.Logic.{_⊎_, inl, inr}
 use mathlib.Core.Path.{_≡_, ap, refl, subst, sym, _∙_}
-use Prim.Native.Nat.{ℕ, _+_, _*_, _<_, _≤_}
+use Prim.Native.Nat.{ℕ, _*_, _<_, _≤_}
 use native.Mathlib.Omega.{arith}
-use borrow.Author.Tests.{eq-eqb, eqb-true, le-leb, le-ltb, lt-ltb, ltb-false}
-use lib.Dec.{eqb, ltb}
+use borrow.Author.Tests.{le-ltb, lt-ltb, ltb-false, ltb-true}
+use lib.Dec.{ltb}
 use lib.ListN.{getD}
 use Rattle.sessions.specs.Set.{has, hasOf}
-use Rattle.sessions.proofs.Members.{has-or-not}
+use Rattle.sessions.proofs.Members.{has-or-not, in-is, is-in, out-is}
 use Rattle.records.specs.declared.End.the-variants as end
 use Rattle.records.specs.Format.{pathOk, rateOk}
-use Rattle.records.proofs.Alls.{all-below}
 use Rattle.records.proofs.PathBytes.{path-passes}
+use Rattle.records.proofs.Rates.{rate-passes}
 use Rattle.search.specs.Crossing.{byteAt}
 use Rattle.declarations.specs.Declaring.{declarationsOf, pathDeclared}
 use Rattle.declarations.specs.declared.Declared.{Declared}
+use Rattle.declarations.proofs.DeclaredPaths.{all-declared}
+use Rattle.declarations.proofs.Undeclared.{undeclared-none}
 use Rattle.writing.specs.Sets.{Declarable, SameSet}
 use Rattle.writing.specs.Writing.{pathSize, recordsOf}
-use Rattle.writing.proofs.Declared.{undeclared-none}
 use Rattle.writing.proofs.EqualOutput.{output-same, same-output}
 use Rattle.writing.proofs.OutputBytes.{output-bytes}
 use Rattle.writing.proofs.Paths.{size-is}
 use Rattle.writing.proofs.ReadBack.{read-back}
-use Rattle.conditions.specs.Conditions.{Active}
 use Rattle.handed.specs.Passes.{Passes}
 use Rattle.ranges.proofs.FitsMeans.{source-fits-means}
 use Rattle.table.specs.Values.{SourceWithin}
 use Rattle.table.proofs.InRange.{capacity-most, hops-most, stop-below}
 use Rattle.table.specs.Words.{hopsOf, linkOf, sourceOf, stopOf}
-use Rattle.agreement.specs.Lines.{Declares, declarationsIn, pathByte}
-use Rattle.agreement.proofs.TableDeclares.{table-declares, table-links, table-path, table-words}
+use Rattle.present_set.specs.Held.{Declares, declarationsIn, pathByte}
+use Rattle.present_set.proofs.TableDeclares.{table-declares, table-links, table-path, table-words}
 
 module _ (w : List ℕ) (ok : Passes w) where
   abbrev d : Declared
   d = declarationsIn w
 
-  active : (t : ℕ) → t < 32 → has t (d .sessions) ≡ 1 → Active w t
-  active t h m = sym (table-declares w .active t h) ∙ eq-eqb _ 1 m
+  active : (t : ℕ) → t < 32 → has t (d .sessions) ≡ 1 → sourceOf w t .active ≡ true
+  active t h m = sym (table-declares w .active t h) ∙ in-is (d .sessions) t m
 
   within : (t : ℕ) → t < 32 → has t (d .sessions) ≡ 1 → SourceWithin (sourceOf w t)
   within t h m = source-fits-means w t (ok .sources t h (ok .joined t h (active t h m)))
@@ -75,10 +75,9 @@ module _ (w : List ℕ) (ok : Passes w) where
       })
 
   known : (t : ℕ) → t < 32 → has t (d .sessions) ≡ 1 → pathDeclared (d .links) (d .path) (t * 8) (pathSize (d .path) t) ≡ true
-  unfolding pathDeclared
   known t l m =
       ap (pathDeclared (d .links) (d .path) (t * 8)) (size t l)
-      ∙ all-below (hopsOf w t) (λ h. hasOf (getD (d .path) (t * 8 + h) 0) (d .links))
+      ∙ all-declared (d .links) (d .path) (t * 8) (hopsOf w t)
       (λ h i.
       ap (λ (v : ℕ). hasOf v (d .links)) (used t h l (omega (arith, hops-most w t)) i)
       ∙ table-links w (stopOf w t h) (stop-below w t h)
@@ -92,10 +91,10 @@ module _ (w : List ℕ) (ok : Passes w) where
         sessions = table-words w .1;
         capacity = λ e h m.
             subst (λ (v : ℕ). rateOk v ≡ true) (sym (table-declares w .capacity e h))
-            (rw (sym (table-links w e h) ∙ eq-eqb _ 1 m, le-leb _ 1000000 (capacity-most w e)) refl);
+            (rate-passes _ (ltb-true 0 _ (sym (table-links w e h) ∙ in-is (d .links) e m)) (capacity-most w e));
         access = λ t h m.
             let z = within t h m in
-            subst (λ (v : ℕ). rateOk v ≡ true) (sym (table-declares w .access t h (active t h m))) (rw (lt-ltb 0 _ (z .joined), le-leb _ 1000000 (z .access)) refl);
+            subst (λ (v : ℕ). rateOk v ≡ true) (sym (table-declares w .access t h (active t h m))) (rate-passes _ (z .joined) (z .access));
         maximum = λ t h m. subst (λ (v : ℕ). v ≤ 1000000) (sym (table-declares w .maximum t h (active t h m))) (within t h m .maximum);
         line = λ t h m.
             let a = active t h m in
@@ -121,13 +120,13 @@ module _ (w : List ℕ) (ok : Passes w) where
             path = λ t h l k a. sym (r .path t l (member t l a) h k) ∙ table-path w t h l k;
           }
         where
-          member : (t : ℕ) → t < 32 → Active w t → has t (d .sessions) ≡ 1
-          member t h a = eqb-true _ 1 (table-declares w .active t h ∙ a)
+          member : (t : ℕ) → t < 32 → sourceOf w t .active ≡ true → has t (d .sessions) ≡ 1
+          member t h a = is-in (d .sessions) t (table-declares w .active t h ∙ a)
 
           capacity : (e : ℕ) → e < 64 → (has e (d .links) ≡ 0) ⊎ (has e (d .links) ≡ 1) → getD (z .capacity) e 0 ≡ linkOf w e .capacity
           capacity e h (inr m) = sym (r .capacity e h m) ∙ table-declares w .capacity e h
           capacity e h (inl m) =
-              let none : ltb 0 (linkOf w e .capacity) ≡ false = sym (table-links w e h) ∙ ap (λ (v : ℕ). eqb v 1) m in
+              let none : ltb 0 (linkOf w e .capacity) ≡ false = sym (table-links w e h) ∙ out-is (d .links) e m in
               undeclared-none (recordsOf (declarationsIn w)) (output-bytes d table-declarable) e (ap (has e) (sym (r .links)) ∙ m)
               ∙ omega (arith, ltb-false 0 (linkOf w e .capacity) none)
 

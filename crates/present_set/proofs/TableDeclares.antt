@@ -14,7 +14,7 @@ use Rattle.fractions.proofs.Cases.{cases, last}
 use Rattle.sessions.proofs.Members.{has-put-other, has-put-same, has-zero, put-lt}
 use Rattle.sessions.specs.Set.{has, hasOf, put}
 use Rattle.table.specs.Words.{linkOf, sourceOf}
-use Rattle.agreement.specs.Lines.{Declares, declarationsIn, pathByte, wordOf}
+use Rattle.present_set.specs.Held.{Declares, declarationsIn, pathByte, wordOf}
 
 -- WORDS OF THE NUMBERS THAT PASS A TEST -------------------------------------------------------------------------------
 
