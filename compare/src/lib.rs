@@ -1,6 +1,7 @@
 //! Compares the proved library (through `umbraconga`) with the second implementation (`second`),
 //! which was written from the documents alone. The program `compare` runs every sort of input of
-//! `sorts` on both and counts; the program `bench` times both on the same inputs (`timing`).
+//! `sorts` on both and counts; the program `bench` times both on the same inputs (`timing`); the program
+//! `stack` measures the library's stack on such inputs (`stack`).
 //!
 //! What is compared: of a calculation the answer and all three slices in full (`calculation`); of a
 //! run the report, the words of the table that are in use, the settled question, what every session
@@ -35,6 +36,7 @@ pub mod recorded;
 pub mod runs;
 pub mod slices;
 pub mod sorts;
+pub mod stack;
 pub mod tally;
 pub mod timing;
 pub mod words;
