@@ -1,8 +1,8 @@
--- Laws of the greatest common divisor: the definition is one, nothing else is, one step of remainders, and Euclid's lemma.
+-- The greatest common divisor: the definition is one, and there is no other; that of a difference and of multiples; Euclid's lemma.
 -- Assumes nothing.
 use mathlib.Core.Path.{_≡_, sym, ap, subst, _∙_}
-use Prim.Native.Nat.{ℕ, zero, suc, _*_, _/_, _%_, _≤_, _<_, _∣_}
-use native.Mathlib.Nat.{mul-one, one-mul, mod-lt, div-add-mod', dvd-refl, dvd-zero, dvd-mul-right, dvd-mul-left-of-dvd, dvd-add-iff-right, dvd-mod-iff, dvd-antisymm, pos-of-dvd-of-pos}
+use Prim.Native.Nat.{ℕ, zero, suc, _-_, _*_, _/_, _%_, _≤_, _<_, _∣_}
+use native.Mathlib.Nat.{mul-one, one-mul, mul-comm, mod-lt, div-add-mod', le-of-dvd, dvd-refl, dvd-zero, dvd-mul-right, dvd-mul-left-of-dvd, mul-dvd-mul-left, dvd-add-iff-right, dvd-sub, dvd-sub-iff-left, dvd-mod-iff, dvd-antisymm, pos-of-dvd-of-pos}
 use native.Mathlib.Omega.{arith}
 use Rattle.fractions.specs.Divisor.{IsGcd, gcdIn, gcdOf}
 
@@ -54,18 +54,35 @@ pub gcd-end : {a b : ℕ} → b ≡ 0 → IsGcd a b a
 gcd-end {a} {b} e =
     record { left = dvd-refl a; right = subst (λ (n : ℕ). a ∣ n) (sym e) (dvd-zero a); greatest = λ d p q. p }
 
--- one step of remainders
-pub gcd-step : {a b g : ℕ} → IsGcd b (a % b) g → IsGcd a b g
-gcd-step i =
+-- the order does not count
+pub gcd-swap : {a b g : ℕ} → IsGcd a b g → IsGcd b a g
+gcd-swap i = record { left = i .right; right = i .left; greatest = λ d p q. i .greatest d q p }
+
+-- one subtraction
+pub gcd-sub : {a b g : ℕ} → b ≤ a → IsGcd (a - b) b g → IsGcd a b g
+gcd-sub {a} {b} {g} h i =
     record {
-      left = (dvd-mod-iff _ (i .left)) .0 (i .right);
-      right = i .left;
-      greatest = λ d p q. i .greatest d q ((dvd-mod-iff d q) .1 p);
+      left = (dvd-sub-iff-left g h (i .right)) .0 (i .left);
+      right = i .right;
+      greatest = λ d p q. i .greatest d (dvd-sub d p q) q;
+    }
+
+-- of c times two numbers
+pub gcd-times : {a b g : ℕ} (c : ℕ) → IsGcd a b g → IsGcd (c * a) (c * b) (c * g)
+gcd-times {a} {b} {g} c i =
+    record {
+      left = mul-dvd-mul-left g c (i .left);
+      right = mul-dvd-mul-left g c (i .right);
+      greatest = λ d p q. rw (gcd-unique i, mul-comm c (gcdOf a b)) (gcd-mul a b c d (rw mul-comm p) (rw mul-comm q));
     }
 
 -- a divisor of something above zero is above zero
 pub gcd-pos : {a b g : ℕ} → 0 < b → IsGcd a b g → 0 < g
 gcd-pos h i = pos-of-dvd-of-pos (i .right) h
+
+-- and no greater
+pub gcd-le : {a b g : ℕ} → 0 < b → IsGcd a b g → g ≤ b
+gcd-le h i = le-of-dvd h (i .right)
 
 -- Euclid's lemma: with no divisor in common with a, b divides c where it divides a c
 pub euclid : {a b : ℕ} (c : ℕ) → IsGcd a b 1 → b ∣ a * c → b ∣ c

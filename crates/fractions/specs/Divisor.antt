@@ -1,6 +1,7 @@
--- The greatest common divisor: what it is, and a definition of it that computes. Follows 01, "Fractions".
+-- The greatest common divisor: what it is, and a definition of it that computes. Follows 01, "Fractions", and 02, §4.
 -- Assumes nothing: definitions.
-use Prim.Native.Nat.{ℕ, zero, suc, _%_, _∣_}
+use mathlib.Core.Path.{_≡_}
+use Prim.Native.Nat.{ℕ, zero, suc, _*_, _%_, _^_, _∣_}
 
 -- g is the greatest common divisor of a and b: it divides both, and every common divisor divides it
 pub record IsGcd (a b g : ℕ) : Type 0 where
@@ -8,7 +9,13 @@ pub record IsGcd (a b g : ℕ) : Type 0 where
   pub right : g ∣ b
   pub greatest : (d : ℕ) → d ∣ a → d ∣ b → d ∣ g
 
--- 01: "found by recursion on remainders", here at most k times
+-- r is x without its factors of two
+pub record OddPart (x r : ℕ) : Type 0 where
+  pub twos : ℕ
+  pub odd : r % 2 ≡ 1
+  pub whole : 2 ^ twos * r ≡ x
+
+-- 01: "found by recursion on remainders", here at most k times. What lowest terms compute with: the code goes another way (02, §4)
 unfoldable pub gcdIn : ℕ → ℕ → ℕ → ℕ
 gcdIn zero a b = a
 gcdIn (suc k) a zero = a

@@ -1,7 +1,7 @@
 // Rates as exact fractions: a numerator and a denominator in lowest terms, compared by their cross products (01, "Fractions").
 ghost use mathlib.Core.Path.{_≡_};
 ghost use Prim.Native.Nat.{ℕ, _*_, _≤_, _<_};
-ghost use Rattle.fractions.specs.Divisor.{IsGcd};
+ghost use Rattle.fractions.specs.Divisor.{IsGcd, OddPart};
 ghost use Rattle.fractions.specs.Fraction.{Sized, limit, maxDen, maxRate, isRateOf, keptOf, leOf, ltOf, sameOf, zeroOf, wholeOf, lowestOf, fineOf, plusOf, leftOf, amongOf, shareOf, sumSaid, shareSaid};
 
 // A rate in kbit/s.
@@ -28,11 +28,42 @@ pub enum Share {
     TooFine,
 }
 
-// The greatest common divisor, by recursion on remainders.
+// What is left of x without its factors of two.
+fn odd_part(x: u64) -> u64
+    requires { ⌜ 0 < x ⌝ }
+    ensures { λ r. ⌜ OddPart x r ⌝ }
+{
+    let twos = u64::trailing_zeros(x);
+    x >> twos
+}
+
+// The greatest common divisor, by a loop that strips factors of two by counting trailing zeros, then subtracts (02, §4).
+// The factors of two that both have are put back at the end. x ^ y has as many trailing zeros as the difference of x and y and is there
+// sooner. Beside 1 there is nothing more to find.
 pub fn gcd(a: u64, b: u64) -> u64
     ensures { λ r. ⌜ IsGcd a b r ⌝ }
 {
-    if b == 0 { a } else { gcd(b, a % b) }
+    if a == 0 {
+        return b;
+    }
+    if b == 0 {
+        return a;
+    }
+    let twos = u64::trailing_zeros(a | b);
+    let mut x = odd_part(a);
+    let mut y = odd_part(b);
+    while x != y && y != 1 {
+        let zeros = u64::trailing_zeros(x ^ y);
+        if x < y {
+            let rest = y - x;
+            y = x;
+            x = rest >> zeros;
+        } else {
+            let rest = x - y;
+            x = rest >> zeros;
+        }
+    }
+    y << twos
 }
 
 impl Rate {
