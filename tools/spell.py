@@ -17,8 +17,7 @@ import sys
 OTHERWISE = {"is-link": "is_a_link"}
 WORD = re.compile(r'[^\s(){}\[\].;,@"«»`|⌜⌝]+')
 CRATES = sorted(os.path.basename(os.path.dirname(p)) for p in glob.glob("crates/*/src"))
-TOP = re.compile(r"^((?:pub |abbrev |unfoldable |private |irreducible )*)(record |data )?([^\s:(){}]+)(?= |$)(?=.*?(?::| where))")
-FIELD = re.compile(r"^ +(?:pub )?([^\s:(){};]+) : ")
+TOP = re.compile(r"^((?:pub |abbrev |unfoldable |private )*)(record |data )?([^\s:(){}=;,\[\]]+)(?=\s|$)")
 
 
 def files(*patterns):
@@ -47,41 +46,46 @@ def words_of(text):
 def declared():
     types, functions, lemmas, fields = set(), set(), set(), set()
     for f in LAW_FILES + FN_FILES:
-        text = read(f)
         if f.endswith("/Lib.antt"):
             continue
-        in_record = False
-        for line in text.split("\n"):
-            if not line or line.startswith("--") or line.startswith("use ") or line.startswith("unfolding"):
-                if not line:
-                    in_record = False
+        lines = read(f).split("\n")
+        in_record, depth = False, 0
+        for n, line in enumerate(lines):
+            bare = line.strip()
+            indent = len(line) - len(line.lstrip())
+            if not bare or bare.startswith("--") or bare.startswith("use ") or bare.startswith("unfolding") or bare.startswith("module "):
                 continue
-            if not line[0].isspace():
-                in_record = bool(re.match(r"(pub )?(record|data) ", line))
-                m = TOP.match(line)
-                if not m or m.group(3) in ("mod", "use", "syntax", "ruleset", "where", "mutual", "open"):
+            if in_record and indent <= depth:
+                in_record = False
+            m = TOP.match(bare)
+            if not m or m.group(3) in ("mod", "use", "where", "mutual", "open", "let", "in", "data", "record"):
+                continue
+            name, rest = m.group(3), bare[m.end(3):]
+            after = lines[n + 1].strip() if n + 1 < len(lines) else ""
+            if re.search(r"(?<![^\s(]):(?!\S)", rest):
+                signed = rest.split(" : ")[0] if " : " in rest else rest
+                if re.match(r"\s*=|.*\s=\s", signed.split("(")[0].split("{")[0]):
                     continue
-                name = m.group(3)
-                rest = line[m.end(3):]
-                if not re.match(r"( \{[^{}]*\}| \([^()]*\))* (:|where)", rest) and not m.group(2):
+                head = re.match(r"(\s*(\{[^{}]*\}|\([^()]*(\([^()]*\)[^()]*)*\)))*\s*:(\s|$)", rest)
+                if not head and not m.group(2):
                     continue
-                if re.match(r" : tie\.|.*: statement M", rest):
-                    continue
-                if m.group(2) or name[0].isupper() and not "-" in name:
-                    types.add(name)
-                elif "unfoldable" in m.group(1) or "abbrev" in m.group(1) or "/specs/" in f:
-                    functions.add(name)
-                else:
-                    lemmas.add(name)
+            elif (rest.strip() == "" or re.match(r"(\s*(\{[^{}]*\}|\([^()]*\)))+$", rest)) and after.startswith(":"):
+                pass
+            elif not m.group(2):
+                continue
+            if re.match(r"\s*: (tie\.|.*statement M)", rest):
+                continue
+            if m.group(2):
+                types.add(name)
+                in_record, depth = True, indent
             elif in_record:
-                m = FIELD.match(line)
-                if m:
-                    fields.add(m.group(1))
+                fields.add(name)
+            elif name[0].isupper() and "-" not in name and len(name) > 1:
+                types.add(name)
+            elif "unfoldable" in m.group(1) or "abbrev" in m.group(1) or "/specs/" in f:
+                functions.add(name)
             else:
-                # a local function, in `where`
-                m = re.match(r"^ +([^\s:(){};]+) : ", line)
-                if m:
-                    lemmas.add(m.group(1))
+                lemmas.add(name)
     return types, functions, lemmas, fields
 
 
@@ -130,7 +134,7 @@ def table():
                 continue
             if not (re.match(r"^[a-z].*[A-Z]", n) or "-" in n):
                 continue
-            if not re.search(r"[a-zA-Z]", n) or re.match(r"^[A-Z]", n) and n.split("-")[0] in types:
+            if not re.search(r"[a-zA-Z]", n):
                 continue
             new = snake(n, types)
             if new != n:

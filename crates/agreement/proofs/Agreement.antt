@@ -26,9 +26,9 @@ use Rattle.table.specs.Words.{empty_words, source_of}
 use Rattle.agreement.specs.Agrees.{Agrees, HasRate, calculated_rate, written_rate}
 use Rattle.present_set.specs.Held.{Declares, declarations_in}
 use Rattle.agreement.specs.Needed.{Needed}
-use Rattle.agreement.proofs.Calculated.{calculate-writes, same_as_calculated}
-use Rattle.agreement.proofs.DeclaresPoses.{declares-poses}
-use Rattle.agreement.proofs.SettledEntries.{conditions_needed, settled-links, settled-told}
+use Rattle.agreement.proofs.Calculated.{calculate_writes, same_as_calculated}
+use Rattle.agreement.proofs.DeclaresPoses.{declares_poses}
+use Rattle.agreement.proofs.SettledEntries.{conditions_needed, settled_links, settled_told}
 use Rattle.agreement.proofs.SettledRates.{settled_answer}
 use Rattle.present_set.proofs.TableDeclares.{table_declares}
 
@@ -44,14 +44,14 @@ module _ (w : List ℕ) (r : Reachable w) (says : answer_of w ≡ settled.Yes) (
   unfolding answer_of
   needed = conditions_needed w (settled_means w (yes_settled (passes14_of w) (settled_of w) says))
 
-  pub has-calculated-rate : (s : ℕ) → s < 32 → Active w s → HasRate w s (calculated_rate d s)
-  has-calculated-rate s h a =
+  pub has_calculated_rate : (s : ℕ) → s < 32 → Active w s → HasRate w s (calculated_rate d s)
+  has_calculated_rate s h a =
       let o = reachable_passes w r in
-      let e : (source_of w s).rate ≡ calculated_rate d s = same_as_calculated d w l (settled_answer w _ (declares-poses d w l) o needed) s h a in
+      let e : (source_of w s).rate ≡ calculated_rate d s = same_as_calculated d w l (settled_answer w _ (declares_poses d w l) o needed) s h a in
       record {
         source = e;
-        links = λ f p. record { held = (needed.b s (omega arith) a f p).held; rate = settled-links w o needed s h a f p ∙ e };
-        told = settled-told w o needed s h a ∙ ap told.Rate e;
+        links = λ f p. record { held = (needed.b s (omega arith) a f p).held; rate = settled_links w o needed s h a f p ∙ e };
+        told = settled_told w o needed s h a ∙ ap told.Rate e;
       }
 
 -- DEMAND 3 ------------------------------------------------------------------------------------------------------------
@@ -59,7 +59,7 @@ module _ (w : List ℕ) (r : Reachable w) (says : answer_of w ≡ settled.Yes) (
 -- for every table that is reached and of which `settled` says yes: every active session has the calculation's rate at its source, at every link of its
 -- path and last told
 pub settled_agrees : (w : List ℕ) → Reachable w → answer_of w ≡ settled.Yes → Agrees w
-settled_agrees w r says = record { rates = has-calculated-rate w r says (declarations_in w) (table_declares w) }
+settled_agrees w r says = record { rates = has_calculated_rate w r says (declarations_in w) (table_declares w) }
 
 -- THE SAME FROM THE USER'S SIDE ---------------------------------------------------------------------------------------
 
@@ -72,8 +72,8 @@ pub calculate_agrees : (w : List ℕ) → Reachable w → answer_of w ≡ settle
     → (s : ℕ) → s < 32 → Active w s
     → HasRate w s (written_rate (calculate_of records nums dens places) s)
 calculate_agrees w r says records nums dens places links sessions done l s h a =
-    subst (HasRate w s) (sym (calculate-writes records nums dens places links sessions done s h (l.active s h ∙ a)))
-    (has-calculated-rate w r says (declarations_of records).declared l s h a)
+    subst (HasRate w s) (sym (calculate_writes records nums dens places links sessions done s h (l.active s h ∙ a)))
+    (has_calculated_rate w r says (declarations_of records).declared l s h a)
 
 -- and so for any input bytes on the empty table: what it writes for an active session is what the machine last told it
 pub run_agrees : (input : List ℕ) → Bytes input

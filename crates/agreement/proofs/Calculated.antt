@@ -41,9 +41,9 @@ same_as_calculated d w l a s h m = answer_calculated d (λ s. (source_of w s).ra
 
 module _ (s nums dens places : List ℕ) (links sessions : ℕ) (done : (calculate_of s nums dens places).answer ≡ calculated.Done links sessions) where
   -- and what `calculate` writes for the sessions that an accepted input declares
-  pub calculate-writes : (t : ℕ) → t < 32 → has_of t (declarations_of s).declared.sessions ≡ true
+  pub calculate_writes : (t : ℕ) → t < 32 → has_of t (declarations_of s).declared.sessions ≡ true
       → written_rate (calculate_of s nums dens places) t ≡ calculated_rate (declarations_of s).declared t
-  calculate-writes t h m =
+  calculate_writes t h m =
       let o = calculate_of s nums dens places in
       answer_calculated (declarations_of s).declared (written_rate o)
       (ordered_of s nums dens places (calculated.Done links sessions) o.nums o.dens (sym done) refl refl)

@@ -46,9 +46,9 @@ module _ (d : Declared) (w : List ℕ) (h : Declares d w) where
       any_at 8 (λ i. eqb (get_or d.path (s * 8 + i) 0) e) i b
       (eqb-T (get_or d.path (s * 8 + i) 0) e (h.path s i k b a ∙ on_path_byte w s e o))
 
-  pub declares-poses : Poses w (problem_of d)
+  pub declares_poses : Poses w (problem_of d)
   unfolding problem_of
-  declares-poses =
+  declares_poses =
       record {
         links = refl;
         sessions = refl;

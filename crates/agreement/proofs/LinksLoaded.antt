@@ -18,7 +18,7 @@ use Rattle.declarations.specs.declared.Declared.{Declared}
 use Rattle.writing.specs.Sets.{Declarable}
 use Rattle.writing.specs.Writing.{link_from}
 use Rattle.writing.proofs.Appending.{stands}
-use Rattle.writing.proofs.ReadRecords.{link-read, link-size}
+use Rattle.writing.proofs.ReadRecords.{link_read, link_size}
 use Rattle.writing.proofs.RunOver.{Taken}
 use Rattle.ends.specs.declared.Source.{Source}
 use Rattle.links.specs.declared.Link.{Link}
@@ -108,8 +108,8 @@ module _ (d : Declared) (ok : Declarable d) (s : List ℕ) where
       let does = ap (λ (x : Step). x.verdict) (takes_link s w b c r.safe k (r.bare b h (inl (omega arith)))).does in
       record {
         what = rec.Link b c;
-        taken = rw (link-read s (length before) b c there call.Machine h (ok.capacity b h m), does) refl;
-        long = link-size s (length before) b c there;
+        taken = rw (link_read s (length before) b c there call.Machine h (ok.capacity b h m), does) refl;
+        long = link_size s (length before) b c there;
         some = omega arith;
         fits = there.fits;
         next = links_next b w h m r k;

@@ -19,11 +19,11 @@ use Rattle.writing.specs.Writing.{records_of}
 use Rattle.writing.specs.Written.{written}
 use Rattle.writing.proofs.BytesBack.{bytes_back}
 use Rattle.writing.proofs.Declared.{declarations_declarable}
-use Rattle.writing.proofs.EqualOutput.{same-output}
+use Rattle.writing.proofs.EqualOutput.{same_output}
 use Rattle.writing.proofs.Whole.{enough}
 use Rattle.present_set.specs.Held.{declarations_in}
 use Rattle.present_set.specs.Present.{present_of}
-use Rattle.present_set.proofs.Called.{good-table}
+use Rattle.present_set.proofs.Called.{good_table}
 use Rattle.agreement.specs.Kinds.{declares_only}
 use Rattle.agreement.specs.Loaded.{Loaded}
 use Rattle.agreement.proofs.TakenAccepted.{taken_accepted}
@@ -50,7 +50,7 @@ machine_bytes_back s bytes rises kinds taken out h =
     let w = (machine_of empty_words s).state in
     let accepted = taken_accepted s bytes kinds taken in
     let held : records_of (declarations_in w) ≡ s =
-    sym (same-output d (declarations_in w) (loaded s bytes rises accepted).same) ∙ bytes_back s bytes accepted rises in
-    good-table w out (reachable_passes_14 w (ran empty s bytes))
+    sym (same_output d (declarations_in w) (loaded s bytes rises accepted).same) ∙ bytes_back s bytes accepted rises in
+    good_table w out (reachable_passes_14 w (ran empty s bytes))
     ∙ enough (declarations_in w) out (omega (arith, h, ap length held))
     ∙ ap (λ (v : List ℕ). written v out) held

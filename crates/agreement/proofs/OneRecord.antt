@@ -29,7 +29,7 @@ use Rattle.table.proofs.Unchanged.{link_other}
 use Rattle.tasks.specs.declared.Packet.{Packet}
 use Rattle.reachable.specs.Invariant.{Every, Safe}
 use Rattle.reachable.proofs.JoinSteps.{Joined, Route, joined, route, the_join}
-use Rattle.reachable.proofs.PacketLists.{every-at}
+use Rattle.reachable.proofs.PacketLists.{every_at}
 use Rattle.reachable.proofs.SafeRecords.{event_safe}
 use Rattle.reachable.proofs.Sends.{appended_all}
 
@@ -99,7 +99,7 @@ module _ (s w : List ℕ) (safe : Safe w) (t a m n at : ℕ) (k : RecordOk s (re
       all_below (count_of w) _
       (λ i l.
       let z = packet_of w 0 in
-      let h = every-at z (packets_of w) i (omega (arith, length_packets w)) none_left in
+      let h = every_at z (packets_of w) i (omega (arith, length_packets w)) none_left in
       ap not (ne_eqb (packet_of w i).session t (λ e. h (ap (λ (q : Packet). q.session) (packets_at w i z l) ∙ e))))
 
   within : SourceWithin (joiner a m)

@@ -14,7 +14,7 @@ use Rattle.records.specs.declared.Call.TheVariants as call
 use Rattle.records.specs.declared.End.TheVariants as end
 use Rattle.records.specs.declared.Record.{Record}
 use Rattle.records.proofs.ReadRecords.{judged_read}
-use Rattle.records.proofs.Runs.{TookOne, finished-turn}
+use Rattle.records.proofs.Runs.{TookOne, finished_turn}
 use Rattle.declarations.specs.Declaring.{declarations_of, declare_of, judging, none_declared}
 use Rattle.declarations.specs.declared.Declared.{Declared}
 use Rattle.writing.specs.Sets.{Declarable}
@@ -34,7 +34,7 @@ module _ (s : List ℕ) where
   kinds_from : (k : ℕ) (z : Declared) (n at : ℕ) → (run k z n at).end ≡ end.Finished → declares_from k s at ≡ true
   unfolding declares_from
   kinds_from zero z n at e = refl
-  kinds_from (suc k) z n at e = go (finished-turn call.Calculation (judging s) (declare_of s) s k z n at e) (λ y m p. kinds_from k y m p)
+  kinds_from (suc k) z n at e = go (finished_turn call.Calculation (judging s) (declare_of s) s k z n at e) (λ y m p. kinds_from k y m p)
     where
       go : (length s ≤ at) ⊎ TookOne call.Calculation (judging s) (declare_of s) s k z n at
           → ((y : Declared) (m p : ℕ) → (run k y m p).end ≡ end.Finished → declares_from k s p ≡ true)

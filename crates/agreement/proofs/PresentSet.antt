@@ -14,12 +14,12 @@ use Rattle.reachable.specs.Reachable.{Reachable}
 use Rattle.reachable.proofs.ReachablePasses.{reachable_passes}
 use Rattle.writing.specs.declared.Wrote.TheVariants as wrote
 use Rattle.writing.specs.Writing.{records_of}
-use Rattle.writing.proofs.Lengths.{output-most}
+use Rattle.writing.proofs.Lengths.{output_most}
 use Rattle.writing.proofs.ReadBack.{read_back}
 use Rattle.present_set.specs.Held.{declarations_in}
 use Rattle.present_set.specs.Present.{present_of}
-use Rattle.present_set.proofs.Called.{answer-means}
-use Rattle.present_set.proofs.TableDeclarable.{table-declarable, table-written}
+use Rattle.present_set.proofs.Called.{answer_means}
+use Rattle.present_set.proofs.TableDeclarable.{table_declarable, table_written}
 use Rattle.agreement.specs.Agrees.{GivesRates}
 use Rattle.agreement.proofs.Agreement.{calculate_agrees}
 
@@ -31,9 +31,9 @@ held_gives : (w : List ℕ) → Reachable w → answer_of w ≡ settled.Yes
 held_gives w r says nums dens places a b c =
     let s = records_of (declarations_in w) in
     let passes = reachable_passes w r in
-    let x = table-written w passes in
-    let same = (read_back (declarations_in w) (table-declarable w passes)).1 in
-    let short : length s ≤ 32768 = omega (arith, output-most (declarations_in w)) in
+    let x = table_written w passes in
+    let same = (read_back (declarations_in w) (table_declarable w passes)).1 in
+    let short : length s ≤ 32768 = omega (arith, output_most (declarations_in w)) in
     let done = accepted s nums dens places a b c short x.0 in
     record {
       accepted = done ∙ ap₂ calculated.Done (sym same.links) (sym same.sessions);
@@ -44,7 +44,7 @@ held_gives w r says nums dens places a b c =
 
 -- where it answers n, the n bytes that it wrote are the records of what the table holds
 pub present_bytes : (w out : List ℕ) (n : ℕ) → (present_of w out).answer ≡ wrote.Bytes n → take n (present_of w out).bytes ≡ records_of (declarations_in w)
-present_bytes w out n e = (answer-means w out (wrote.Bytes n) (present_of w out).bytes (sym e) refl).bytes
+present_bytes w out n e = (answer_means w out (wrote.Bytes n) (present_of w out).bytes (sym e) refl).bytes
 
 -- for every table that is reached and of which `settled` says yes, whatever the slice: `calculate` on the bytes that the writer's call gives
 pub present_agrees : (w : List ℕ) → Reachable w → answer_of w ≡ settled.Yes

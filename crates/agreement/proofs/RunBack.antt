@@ -20,8 +20,8 @@ use Rattle.search.specs.Crossing.{byte_at}
 use Rattle.declarations.specs.declared.Declared.{Declared}
 use Rattle.writing.specs.Sets.{Declarable, SameSet}
 use Rattle.writing.specs.Writing.{link_from, link_records, path_size, records_of, session_from, session_records}
-use Rattle.writing.proofs.Lengths.{output-most, records_long}
-use Rattle.writing.proofs.RunOver.{run-both}
+use Rattle.writing.proofs.Lengths.{output_most, records_long}
+use Rattle.writing.proofs.RunOver.{run_both}
 use Rattle.handed.proofs.EmptyPasses.{empty_passes}
 use Rattle.machine.specs.Machine.{acting, judging, machine_of, run_records_of}
 use Rattle.table.specs.Words.{empty_words, hops_of}
@@ -75,7 +75,7 @@ module _ (d : Declared) (ok : Declarable d) where
   unfolding values
   loaded =
       let r =
-      run-both call.Machine (judging s) (acting s) (LinksIn d) (SessionsIn d) 64 32 (λ e. has_of e d.links) (λ t. has_of t d.sessions)
+      run_both call.Machine (judging s) (acting s) (LinksIn d) (SessionsIn d) 64 32 (λ e. has_of e d.links) (λ t. has_of t d.sessions)
       (link_from d.capacity) (session_from d.access d.maximum d.path) (links_turn d ok s) (links_skip d) (sessions_turn d ok s) (sessions_skip d)
       (links_done d) empty_words (empty_in d) in
       record {
@@ -92,4 +92,4 @@ module _ (d : Declared) (ok : Declarable d) where
 -- the machine takes them all, from the empty table on, and its table then holds an equal set: what `run` is proved to do
 pub run_back : (d : Declared) → Declarable d → Loaded d (machine_of empty_words (records_of d))
 unfolding machine_of run_records_of records_of
-run_back d ok = rw (empty_passes, le-ltb 32768 (length (records_of d)) (omega (arith, output-most d))) (loaded d ok)
+run_back d ok = rw (empty_passes, le-ltb 32768 (length (records_of d)) (omega (arith, output_most d))) (loaded d ok)

@@ -22,7 +22,7 @@ use Rattle.declarations.proofs.DeclaredPaths.{declared_at}
 use Rattle.writing.specs.Sets.{Declarable}
 use Rattle.writing.specs.Writing.{path_size, session_from}
 use Rattle.writing.proofs.Appending.{stands}
-use Rattle.writing.proofs.ReadRecords.{session-path, session-read, session-size}
+use Rattle.writing.proofs.ReadRecords.{session_path, session_read, session_size}
 use Rattle.writing.proofs.RunOver.{Taken}
 use Rattle.ends.specs.Figure3.{joining_of}
 use Rattle.ends.specs.declared.Source.{Source}
@@ -188,7 +188,7 @@ module _ (d : Declared) (ok : Declarable d) (s : List ℕ) where
       let a = get_or d.access b 0 in
       let x = get_or d.maximum b 0 in
       let n = path_size d.path b in
-      let bytes = session-path s at b a x n (byte_at d.path b) there in
+      let bytes = session_path s at b a x n (byte_at d.path b) there in
       let small = (path_is d.path (b * 8) n (ok.path b h m)).most in
       let path : path_ok s (at + 11) n ≡ true = path_same s (at + 11) d.path (b * 8) bytes n small ∙ ok.path b h m in
       let rate = rate_is a (ok.access b h m) in
@@ -196,8 +196,8 @@ module _ (d : Declared) (ok : Declarable d) (s : List ℕ) where
       (h, rate.0, rate.1, ok.maximum b h m, path, omega (arith, there.fits)) in
       record {
         what = rec.Session b a x n (at + 11);
-        taken = rw (session-read s at b a x n (byte_at d.path b) there call.Machine h (ok.access b h m) (ok.maximum b h m) path, ap (λ (y : Step). y.verdict) (takes d ok s b w r h m (at + 11) bytes k).does) refl;
-        long = session-size s at b a x n (byte_at d.path b) there;
+        taken = rw (session_read s at b a x n (byte_at d.path b) there call.Machine h (ok.access b h m) (ok.maximum b h m) path, ap (λ (y : Step). y.verdict) (takes d ok s b w r h m (at + 11) bytes k).does) refl;
+        long = session_size s at b a x n (byte_at d.path b) there;
         some = omega arith;
         fits = there.fits;
         next = sessions_next d ok s b w r h m (at + 11) bytes k;

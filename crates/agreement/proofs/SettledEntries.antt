@@ -40,32 +40,32 @@ hop_on_path_lem w s e h = let o = hop_on w s e h in record { place = hop_of w s 
 
 module _ (w : List ℕ) (o : Passes w) where
   -- the rates that the source of an active session keeps are in lowest terms
-  pub source-of-active : (s : ℕ) → s < 32 → Active w s → SourceWithin (source_of w s)
-  source-of-active s l a = source_fits_means w s (o.sources s l (o.joined s l a))
+  pub source_of_active : (s : ℕ) → s < 32 → Active w s → SourceWithin (source_of w s)
+  source_of_active s l a = source_fits_means w s (o.sources s l (o.joined s l a))
 
   -- an entry is on its session's path
-  pub entry-on-path : (e s : ℕ) → e < 64 → s < 32 → holds (place_of w e) s ≡ true → OnPath w s e
-  entry-on-path e s le ls h = hop_on_path_lem w s e (o.on_path e s le ls h)
+  pub entry_on_path_lem : (e s : ℕ) → e < 64 → s < 32 → holds (place_of w e) s ≡ true → OnPath w s e
+  entry_on_path_lem e s le ls h = hop_on_path_lem w s e (o.on_path e s le ls h)
 
   module _ (c : Needed w) where
     -- and its session is active: with no packet in flight, no Leave is to come
-    pub entry-active : (e s : ℕ) → e < 64 → s < 32 → holds (place_of w e) s ≡ true → Active w s
-    entry-active e s le ls h = go (source_of w s).active refl
+    pub entry_active : (e s : ℕ) → e < 64 → s < 32 → holds (place_of w e) s ≡ true → Active w s
+    entry_active e s le ls h = go (source_of w s).active refl
       where
         go : (b : Bool) → (source_of w s).active ≡ b → Active w s
         go true q = q
         go false q = absurd (omega (arith, (o.live e s le ls h q).flying, c.a))
 
     -- at each link of its path an active session has the rate of its source
-    pub settled-links : (s : ℕ) → s < 32 → Active w s → (e : ℕ) → OnPath w s e → rate_at (place_of w e) s ≡ (source_of w s).rate
-    settled-links s l a e h =
+    pub settled_links : (s : ℕ) → s < 32 → Active w s → (e : ℕ) → OnPath w s e → rate_at (place_of w e) s ≡ (source_of w s).rate
+    settled_links s l a e h =
         let there = c.b s (omega arith) a e h in
         let entry : Within max_rate (rate_at (place_of w e) s) = entry_fits_means w e s l (o.entries e s (on_path_below w s e h) l there.held) in
-        lowest_unique entry.lowest (source-of-active s l a).rate.lowest there.rate
+        lowest_unique entry.lowest (source_of_active s l a).rate.lowest there.rate
 
     -- which is the rate last told
-    pub settled-told : (s : ℕ) → s < 32 → Active w s → (source_of w s).told ≡ told.Rate (source_of w s).rate
-    settled-told s l a =
+    pub settled_told : (s : ℕ) → s < 32 → Active w s → (source_of w s).told ≡ told.Rate (source_of w s).rate
+    settled_told s l a =
         let t = c.e s (omega arith) a in
-        let last : Within max_rate t.last = subst ToldWithin t.told (source-of-active s l a).told in
-        t.told ∙ ap told.Rate (lowest_unique last.lowest (source-of-active s l a).rate.lowest t.same)
+        let last : Within max_rate t.last = subst ToldWithin t.told (source_of_active s l a).told in
+        t.told ∙ ap told.Rate (lowest_unique last.lowest (source_of_active s l a).rate.lowest t.same)

@@ -26,7 +26,7 @@ use Rattle.records.proofs.Somes.{clash}
 use Rattle.sessions.specs.Set.{has, size_of}
 use Rattle.soundness.specs.Sound.{weight}
 use Rattle.sessions.proofs.Members.{is_in}
-use Rattle.soundness.proofs.Weights.{Comes, member_size, members-weigh, members-within}
+use Rattle.soundness.proofs.Weights.{Comes, member_size, members_weigh, members_within}
 use Rattle.agreement.specs.Needed.{Shared}
 
 -- IN WHOLE NUMBERS ----------------------------------------------------------------------------------------------------
@@ -50,10 +50,10 @@ fine_share c y k =
     (λ e f. absurd (clash (is_fine bound.TooFine) f refl))
 
 -- B of a link whose R has members
-share_of-B : (p : Place) (y : Rate) → sum_of p ≡ total.Rate y → is_fine (B p) ≡ true → 0 < size_of (R p)
+share_of_b : (p : Place) (y : Rate) → sum_of p ≡ total.Rate y → is_fine (B p) ≡ true → 0 < size_of (R p)
     → B p ≡ bound.At (each_of p.link.capacity y (size_of (R p)))
 unfolding B
-share_of-B p y e f h =
+share_of_b p y e f h =
     let c = p.link.capacity in
     let k = size_of (R p) in
     let q : B p ≡ as_bound (share_of c y k) = ap (bound_of c k) e ∙ bound_some c k y h in
@@ -86,7 +86,7 @@ module _ (N : ℕ) (x : ℕ → ℕ) (p : Place) (pos : 0 < N) (work : Workable 
   free_shown s l h = shown s l (or_hit (in_r p s) (in_f p s) (eqb-T (has s (F p)) 1 h))
 
   sum_comes : Comes N y (weight (F p) x)
-  sum_comes = members-weigh N x p pos free_shown y is.sums
+  sum_comes = members_weigh N x p pos free_shown y is.sums
 
   sum_most : y.num ≤ C * y.den
   sum_most = let z : Sized C y = subst (TotalSized C) is.sums (sum_sized p work) in z.num
@@ -94,39 +94,39 @@ module _ (N : ℕ) (x : ℕ → ℕ) (p : Place) (pos : 0 < N) (work : Workable 
   left : M + y.num ≡ C * y.den
   left = omega (arith, sum_most)
 
-  B-is : 0 < k → B p ≡ bound.At (each_of C y k)
-  B-is = share_of-B p y is.sums fine
+  b_is : 0 < k → B p ≡ bound.At (each_of C y k)
+  b_is = share_of_b p y is.sums fine
 
-  B-same : Same (each_of C y k) (frac M (y.den * k))
+  b_same : Same (each_of C y k) (frac M (y.den * k))
   unfolding each_of
-  B-same = lowest_same M (y.den * k)
+  b_same = lowest_same M (y.den * k)
 
-  B-pos : 0 < k → 0 < (each_of C y k).den
+  b_pos : 0 < k → 0 < (each_of C y k).den
   unfolding each_of
-  B-pos h = lowest_pos M (y.den * k) (mul-pos sum_comes.pos h)
+  b_pos h = lowest_pos M (y.den * k) (mul-pos sum_comes.pos h)
 
   -- a member of R has the rate B
-  at-B : (s : ℕ) → s < 32 → in_r p s ≡ true → Same (frac (x s) N) (frac M (y.den * k))
-  at-B s l r =
+  at_b : (s : ℕ) → s < 32 → in_r p s ≡ true → Same (frac (x s) N) (frac M (y.den * k))
+  at_b s l r =
       let h = member_size (R p) s l (is_in (R p) s r) in
       let i = shown s l (ap (λ (b : Bool). b || in_f p s) r) in
-      let e : equals_b (bound.At (each_of C y k)) (rate_at p s) ≡ true = subst (λ (b : Bound). equals_b b (rate_at p s) ≡ true) (B-is h) (rated.restricted s (omega arith) r) in
-      same_trans i.pos (same_sym i.same) (same_trans (B-pos h) (record { cross = eqb-true _ _ e }) B-same)
+      let e : equals_b (bound.At (each_of C y k)) (rate_at p s) ≡ true = subst (λ (b : Bound). equals_b b (rate_at p s) ≡ true) (b_is h) (rated.restricted s (omega arith) r) in
+      same_trans i.pos (same_sym i.same) (same_trans (b_pos h) (record { cross = eqb-true _ _ e }) b_same)
 
   -- a member of F has less
-  under-B : (s : ℕ) → s < 32 → in_f p s ≡ true → 0 < k → Lt (frac (x s) N) (frac M (y.den * k))
-  under-B s l r h =
+  under_b : (s : ℕ) → s < 32 → in_f p s ≡ true → 0 < k → Lt (frac (x s) N) (frac M (y.den * k))
+  under_b s l r h =
       let i = shown s l (or_hit (in_r p s) (in_f p s) (so_passes (in_f p s) r)) in
-      let e : below_b (bound.At (each_of C y k)) (rate_at p s) ≡ true = subst (λ (b : Bound). below_b b (rate_at p s) ≡ true) (B-is h) (rated.free s (omega arith) r) in
-      le_lt_trans pos (le_of_same (same_sym i.same)) (lt_le_trans (mul-pos sum_comes.pos h) (lt_true e) (le_of_same B-same))
+      let e : below_b (bound.At (each_of C y k)) (rate_at p s) ≡ true = subst (λ (b : Bound). below_b b (rate_at p s) ≡ true) (b_is h) (rated.free s (omega arith) r) in
+      le_lt_trans pos (le_of_same (same_sym i.same)) (lt_le_trans (mul-pos sum_comes.pos h) (lt_true e) (le_of_same b_same))
 
   -- a link of which (c) holds
-  pub rated-over : RatedOver N x p
-  rated-over =
+  pub rated_over : RatedOver N x p
+  rated_over =
       let S = weight (F p) x in
       let c = sum_comes in
       record {
-        restricted = λ s l r. share_equal N S (x s) C k y.num y.den M c.pos c.same.cross left (at-B s l r).cross;
-        free = λ s l r h. share_below N S (x s) C k y.num y.den M c.pos c.same.cross left (under-B s l r h).cross;
-        fits = members-within N x p pos free_shown y work is.sums;
+        restricted = λ s l r. share_equal N S (x s) C k y.num y.den M c.pos c.same.cross left (at_b s l r).cross;
+        free = λ s l r h. share_below N S (x s) C k y.num y.den M c.pos c.same.cross left (under_b s l r h).cross;
+        fits = members_within N x p pos free_shown y work is.sums;
       }

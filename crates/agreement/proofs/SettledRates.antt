@@ -37,22 +37,22 @@ use Rattle.table.proofs.InRange.{row_rates, source_in_range_lem}
 use Rattle.table.proofs.Workables.{place_workable}
 use Rattle.agreement.specs.Needed.{Needed}
 use Rattle.agreement.proofs.Poses.{Poses}
-use Rattle.agreement.proofs.SettledEntries.{entry-active, entry-on-path, settled-links, source-of-active}
-use Rattle.agreement.proofs.SettledLinks.{RatedOver, rated-over}
+use Rattle.agreement.proofs.SettledEntries.{entry_active, entry_on_path_lem, settled_links, source_of_active}
+use Rattle.agreement.proofs.SettledLinks.{RatedOver, rated_over}
 
 -- THE WORDS OF A LINK -------------------------------------------------------------------------------------------------
 
 -- of the sessions that a link holds, those in R
-in-R-counts : (p : Place) (s : ℕ) → part (holds p s) (part (in_r p s) 1) ≡ has s (R p)
-in-R-counts p s = go (has_or_not s (R p))
+in_r_counts : (p : Place) (s : ℕ) → part (holds p s) (part (in_r p s) 1) ≡ has s (R p)
+in_r_counts p s = go (has_or_not s (R p))
   where
     go : (has s (R p) ≡ 0) ⊎ (has s (R p) ≡ 1) → part (holds p s) (part (in_r p s) 1) ≡ has s (R p)
     go (inl e) = rw e (part_zero (in_f p s))
     go (inr e) = rw e refl
 
 -- and those not in R, which are in F
-in-F-counts : (p : Place) (s v : ℕ) → (in_r p s ≡ true → in_f p s ≡ false) → part (holds p s) (part (not (in_r p s)) v) ≡ has s (F p) * v
-in-F-counts p s v apart = go (has_or_not s (R p)) (has_or_not s (F p))
+in_f_counts : (p : Place) (s v : ℕ) → (in_r p s ≡ true → in_f p s ≡ false) → part (holds p s) (part (not (in_r p s)) v) ≡ has s (F p) * v
+in_f_counts p s v apart = go (has_or_not s (R p)) (has_or_not s (F p))
   where
     go : (has s (R p) ≡ 0) ⊎ (has s (R p) ≡ 1) → (has s (F p) ≡ 0) ⊎ (has s (F p) ≡ 1) → part (holds p s) (part (not (in_r p s)) v) ≡ has s (F p) * v
     go (inl r) (inl f) = rw (r, f) (omega arith)
@@ -76,7 +76,7 @@ module _ (w : List ℕ) where
   module _ (o : Passes w) (c : Needed w) where
     entry_shown : (e s : ℕ) → e < 64 → s < 32 → holds (place_of w e) s ≡ true → Comes N (rate_at (place_of w e) s) (x s)
     entry_shown e s le ls h =
-        let same = settled-links w o c s ls (entry-active w o c e s le ls h) e (entry-on-path w o e s le ls h) in
+        let same = settled_links w o c s ls (entry_active w o c e s le ls h) e (entry_on_path_lem w o e s le ls h) in
         record {
           pos = (row_rates w e s ls).pos;
           same = subst (λ (r : Rate). Same r (frac (x s) N)) (sym same) (common.shown s ls);
@@ -84,7 +84,7 @@ module _ (w : List ℕ) where
 
     link_rated_lem : (e : ℕ) → e < 64 → RatedOver N x (place_of w e)
     link_rated_lem e le =
-        rated-over N x (place_of w e) common.pos (place_workable w e) (o.fine e le) (passes_sums w o e le)
+        rated_over N x (place_of w e) common.pos (place_workable w e) (o.fine e le) (passes_sums w o e le)
         (λ s ls h. entry_shown e s le ls h) (c.c e (omega arith))
 
     -- THE PROBLEM THAT IT POSES -----------------------------------------------------------------------------------------
@@ -106,8 +106,8 @@ module _ (w : List ℕ) where
 
           owned : holds (place_of w e) s ≡ true → of_link p e s ≡ true
           owned h =
-              let a = entry-active w o c e s le ls h in
-              ap₂ ◌&&◌ (q.active s ls ∙ a) (passes_so (p.crosses e s) (q.crosses e s le ls a (entry-on-path w o e s le ls h)))
+              let a = entry_active w o c e s le ls h in
+              ap₂ ◌&&◌ (q.active s ls ∙ a) (passes_so (p.crosses e s) (q.crosses e s le ls a (entry_on_path_lem w o e s le ls h)))
 
       -- so the size of its R and the sum of its F are the theory's
       size_is : (e : ℕ) → e < 64 → size_r p (in_r (place_of w e)) e ≡ size_of (R (place_of w e))
@@ -116,7 +116,7 @@ module _ (w : List ℕ) where
           let f : ℕ → ℕ = λ s. part (of_link p e s) (part (in_r (place_of w e) s) 1) in
           ap (λ (n : ℕ). sum n f) q.sessions
           ∙ sum_eq 32 f (λ s. has s (R (place_of w e)))
-          (λ s ls. ap (λ (b : Bool). part b (part (in_r (place_of w e) s) 1)) (holds_its_own e s le ls) ∙ in-R-counts (place_of w e) s)
+          (λ s ls. ap (λ (b : Bool). part b (part (in_r (place_of w e) s) 1)) (holds_its_own e s le ls) ∙ in_r_counts (place_of w e) s)
           ∙ sym (size_sum (R (place_of w e)))
 
       sum_is : (e : ℕ) → e < 64 → sum_f p x (in_r (place_of w e)) e ≡ weight (F (place_of w e)) x
@@ -127,11 +127,11 @@ module _ (w : List ℕ) where
           ∙ sum_eq 32 f (λ s. has s (F (place_of w e)) * x s)
           (λ s ls.
           ap (λ (b : Bool). part b (part (not (in_r (place_of w e) s)) (x s))) (holds_its_own e s le ls)
-          ∙ in-F-counts (place_of w e) s (x s) (o.apart e s le ls))
+          ∙ in_f_counts (place_of w e) s (x s) (o.apart e s le ls))
 
       -- a session of S_e that is not in R is in F
-      in-F : (e s : ℕ) → e < 64 → s < 32 → T (of_link p e s) → T (not (in_r (place_of w e) s)) → in_f (place_of w e) s ≡ true
-      in-F e s le ls t n =
+      in_f_lem : (e s : ℕ) → e < 64 → s < 32 → T (of_link p e s) → T (not (in_r (place_of w e) s)) → in_f (place_of w e) s ≡ true
+      in_f_lem e s le ls t n =
           go (or_either (in_r (place_of w e) s) (in_f (place_of w e) s) (sym (holds_its_own e s le ls) ∙ passes_so (of_link p e s) t))
         where
           go : (in_r (place_of w e) s ≡ true) ⊎ (in_f (place_of w e) s ≡ true) → in_f (place_of w e) s ≡ true
@@ -147,7 +147,7 @@ module _ (w : List ℕ) where
                 rw (size_is e le, sum_is e le, q.capacity e le) (k.restricted s (active_there s h).0 (passes_so (in_r (place_of w e) s) r));
             below = λ s h t n g.
                 let l = (active_there s h).0 in
-                let f = in-F e s le l (and_join (p.active s) (p.crosses e s) h.1 t) n in
+                let f = in_f_lem e s le l (and_join (p.active s) (p.crosses e s) h.1 t) n in
                 rw (size_is e le, sum_is e le, q.capacity e le) (k.free s l f (subst (λ (n : ℕ). 0 < n) (size_is e le) g));
             empty = λ z. rw (sum_is e le, q.capacity e le) k.fits;
           }
@@ -170,7 +170,7 @@ module _ (w : List ℕ) where
           go l a (inl r) =
               let e = r.link in
               let held : holds (place_of w e) s ≡ true = ap (λ (b : Bool). b || in_f (place_of w e) s) r.there in
-              let on = q.crosses e s r.below l a (entry-on-path w o e s r.below l held) in
+              let on = q.crosses e s r.below l a (entry_on_path_lem w o e s r.below l held) in
               inr (e, omega (arith, q.links, r.below), on, so_passes (in_r (place_of w e) s) r.there)
           go l a (inr r) =
               let m : Same (frac (x s) N) (whole_of (figure3.D (source_of w s))) =
@@ -193,7 +193,7 @@ module _ (w : List ℕ) where
             rates = x;
             fair = settled_is_fair p N x (λ e s. in_r (place_of w e) s) settled_rates;
             shown = λ s h. common.shown s (active_there s h).0;
-            lowest = λ s h. let u = active_there s h in (source-of-active w o s u.0 u.1).rate.lowest;
+            lowest = λ s h. let u = active_there s h in (source_of_active w o s u.0 u.1).rate.lowest;
           }
 
 -- 00, demand 3: the rates of a settled table are the answer of the problem that the table poses

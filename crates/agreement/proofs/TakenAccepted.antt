@@ -26,9 +26,9 @@ use Rattle.records.specs.declared.Refusal.TheVariants as refusal
 use Rattle.records.specs.declared.Verdict.{Verdict}
 use Rattle.records.specs.declared.Verdict.TheVariants as verdict
 use Rattle.records.proofs.PathBytes.{Path, path_is}
-use Rattle.records.proofs.ReadRecords.{judged_read, judged-record-ok, judged_taken}
+use Rattle.records.proofs.ReadRecords.{judged_read, judged_record_ok, judged_taken}
 use Rattle.records.proofs.Refused.{not_finished, not_taken}
-use Rattle.records.proofs.Runs.{TookOne, finished-turn, run_end, run-takes}
+use Rattle.records.proofs.Runs.{TookOne, finished_turn, run_end, run_takes}
 use Rattle.records.proofs.Somes.{clash}
 use Rattle.declarations.specs.Declaring as declaring
 use Rattle.declarations.specs.declared.Declared.{Declared}
@@ -49,7 +49,7 @@ use Rattle.table.proofs.EmptyLinks.{none_active}
 use Rattle.table.proofs.Unchanged.{packets_after_link, source_after_link}
 use Rattle.tasks.specs.declared.Packet.{Packet}
 use Rattle.reachable.specs.Invariant.{Every, Safe, also, none}
-use Rattle.reachable.proofs.PacketLists.{every_append, every-both, every_map}
+use Rattle.reachable.proofs.PacketLists.{every_append, every_both, every_map}
 use Rattle.reachable.proofs.PassesSafe.{passes_safe}
 use Rattle.agreement.specs.Kinds.{declares_at, declares_from, declares_only}
 use Rattle.agreement.proofs.OneRecord.{TakesSession, after_join, after_link, takes_link, takes_session}
@@ -100,7 +100,7 @@ module _ (s w : List ℕ) (z : Declared) (r : Alike w z) where
                   (λ n. r.links i l ∙ ap (ltb 0) (sym (takes.elsewhere i (λ q. n (sym q)))));
               sessions = λ u l. r.sessions u l ∙ sym (source u l);
               senders = subst (Every (λ q. (source_of v q.session).active ≡ true)) (sym (packets_after_link w e (new_link c) k.0))
-                  (every_map (packets_of w) (λ q h. source q.session h.0.within.session ∙ h.1) (every-both (packets_of w) r.safe.packets r.senders));
+                  (every_map (packets_of w) (λ q h. source q.session h.0.within.session ∙ h.1) (every_both (packets_of w) r.safe.packets r.senders));
             }),
       )
 
@@ -149,7 +149,7 @@ module _ (s w : List ℕ) (z : Declared) (r : Alike w z) where
               senders = subst (Every (λ q. (source_of v q.session).active ≡ true)) (sym takes.joined.packets)
                   (every_append (packets_of w) _
                   (every_map (packets_of w) (λ q h. others q.session h.0.within.session (gone q h.1) ∙ h.1)
-                  (every-both (packets_of w) r.safe.packets r.senders))
+                  (every_both (packets_of w) r.safe.packets r.senders))
                   (also takes.joined.active none));
             }),
       )
@@ -190,7 +190,7 @@ module _ (s : List ℕ) (bytes : Bytes s) where
       → judged (read_at call.Machine s at) (judging s w) ≡ read.Record x
       → (judged (read_at call.Calculation s at) (declaring.judging s z) ≡ read.Record x) × Alike (acting s w x) (declaring.declare_of s z x)
   record_also w z at x r kind taken =
-      let b = go (read_shape s at x is) (judged-record-ok call.Machine s at (judging s w) x taken bytes) (judged_taken (read_at call.Machine s at) (judging s w) x taken) in
+      let b = go (read_shape s at x is) (judged_record_ok call.Machine s at (judging s w) x taken bytes) (judged_taken (read_at call.Machine s at) (judging s w) x taken) in
       (ap (λ (y : Read). judged y (declaring.judging s z)) is ∙ ap (λ (v : Verdict). weighed v x) b.0, b.1)
     where
       is : read_at call.Calculation s at ≡ read.Record x
@@ -210,7 +210,7 @@ module _ (s : List ℕ) (bytes : Bytes s) where
       → (reader k z n at).end ≡ end.Finished
   unfolding run_from declares_from
   also_from zero w z n at r d e = refl
-  also_from (suc k) w z n at r d e = go (finished-turn call.Machine (judging s) (acting s) s k w n at e) d (λ v y m p. also_from k v y m p)
+  also_from (suc k) w z n at r d e = go (finished_turn call.Machine (judging s) (acting s) s k w n at e) d (λ v y m p. also_from k v y m p)
     where
       go : (length s ≤ at) ⊎ TookOne call.Machine (judging s) (acting s) s k w n at
           → cond (ltb at (length s)) (declares_at s at && declares_from k s (at + size_at s at)) true ≡ true
@@ -221,7 +221,7 @@ module _ (s : List ℕ) (bytes : Bytes s) where
       go (inr t) g again =
           let b = and_both (declares_at s at) _ (rw (lt-ltb at (length s) t.within) at g) in
           let a = record_also w z at t.what r b.0 t.taken in
-          ap (λ (x : Ran Declared). x.end) (run-takes call.Calculation (declaring.judging s) (declaring.declare_of s) s k z n at t.what t.within a.0)
+          ap (λ (x : Ran Declared). x.end) (run_takes call.Calculation (declaring.judging s) (declaring.declare_of s) s k z n at t.what t.within a.0)
           ∙ again (acting s w t.what) (declaring.declare_of s z t.what) (n + 1) (at + size_at s at) a.1 b.1 t.rest
 
 -- what the machine takes whole, the calculation accepts

@@ -12,11 +12,11 @@ use Rattle.fractions.proofs.Cases.{order}
 use Rattle.fairness.specs.Figure1.{figure1, rate}
 use Rattle.fairness.specs.MaxMin.{Active, Bottleneck, MaxMinFair, Restricted}
 use Rattle.fairness.proofs.Anys.{any_found}
-use Rattle.fairness.proofs.Bottlenecks.{bottleneck-or-not}
+use Rattle.fairness.proofs.Bottlenecks.{bottleneck_or_not}
 use Rattle.fairness.proofs.EverySessionIsRestricted.{max_min_restricted}
-use Rattle.fairness.proofs.Figure1IsFair.{figure1-fair}
+use Rattle.fairness.proofs.Figure1IsFair.{figure1_fair}
 use Rattle.fairness.proofs.Running.{values_at}
-use Rattle.fairness.proofs.SameRates.{bottleneck-same, own_same}
+use Rattle.fairness.proofs.SameRates.{bottleneck_same, own_same}
 use Rattle.fairness.proofs.Uniqueness.{max_min_unique}
 use Rattle.records.proofs.Somes.{clash}
 use Rattle.declarations.specs.declared.Declared.{Declared}
@@ -56,7 +56,7 @@ module _ (d : Declared) (N : ℕ) (x : ℕ → ℕ) (t : ℕ) where
       p = on_path d e t k.crosses
 
       hit : test (byte_at d.path t (0 + p.0)) ≡ true
-      hit = ap (λ (h : ℕ). test (byte_at d.path t h)) {x = 0 + p.0} {y = p.0} (omega arith) ∙ ap test p.2 ∙ so_says (bottleneck-or-not (problem_of d) N x t e) k
+      hit = ap (λ (h : ℕ). test (byte_at d.path t h)) {x = 0 + p.0} {y = p.0} (omega arith) ∙ ap test p.2 ∙ so_says (bottleneck_or_not (problem_of d) N x t e) k
 
       go : First test (byte_at d.path t) 0 8 → BindingLink d N x t (first_of test (path_bytes d.path t))
       go f =
@@ -67,9 +67,9 @@ module _ (d : Declared) (N : ℕ) (x : ℕ → ℕ) (t : ℕ) where
             hop = f.at;
             within = f.within;
             there = there;
-            bottleneck = says_so (bottleneck-or-not (problem_of d) N x t _) (ap test f.is ∙ f.passes);
+            bottleneck = says_so (bottleneck_or_not (problem_of d) N x t _) (ap test f.is ∙ f.passes);
             first = λ h l b.
-                clash (test (byte_at d.path t h)) (so_says (bottleneck-or-not (problem_of d) N x t _) b)
+                clash (test (byte_at d.path t h)) (so_says (bottleneck_or_not (problem_of d) N x t _) b)
                 (ap (λ (j : ℕ). test (byte_at d.path t j)) {x = h} {y = 0 + h} (omega arith) ∙ f.before h l);
           }
 
@@ -107,13 +107,13 @@ module _ (d : Declared) (N : ℕ) (x : ℕ → ℕ) (M : ℕ) (y : ℕ → ℕ) 
       not_before h =
           k.first l.hop h
           (subst (Bottleneck (problem_of d) N x t) l.there
-          (bottleneck-same (problem_of d) M y N x g.feasible.pos (max_min_unique (problem_of d) M y N x g f) t a j l.bottleneck))
+          (bottleneck_same (problem_of d) M y N x g.feasible.pos (max_min_unique (problem_of d) M y N x g f) t a j l.bottleneck))
 
       not_after : k.hop < l.hop → ⊥
       not_after h =
           l.first k.hop h
           (subst (Bottleneck (problem_of d) M y t) k.there
-          (bottleneck-same (problem_of d) N x M y f.feasible.pos (max_min_unique (problem_of d) N x M y f g) t a i k.bottleneck))
+          (bottleneck_same (problem_of d) N x M y f.feasible.pos (max_min_unique (problem_of d) N x M y f g) t a i k.bottleneck))
 
       go : (k.hop ≤ l.hop) ⊎ (l.hop < k.hop) → (l.hop ≤ k.hop) ⊎ (k.hop < l.hop) → i ≡ j
       go (inl h) (inl o) = k.there ∙ ap (byte_at d.path t) {x = k.hop} {y = l.hop} (omega arith) ∙ sym l.there
@@ -121,17 +121,17 @@ module _ (d : Declared) (N : ℕ) (x : ℕ → ℕ) (M : ℕ) (y : ℕ → ℕ) 
       go (inr h) o = absurd (not_before h)
 
   -- what binds a session is settled by the declarations alone
-  pub binds-unique : (i j : ℕ) → Binds d N x t i → Binds d M y t j → i ≡ j
-  binds-unique i j (inl o) (inl q) = o.0 ∙ sym q.0
-  binds-unique i j (inl o) (inr l) =
+  pub binds_unique : (i j : ℕ) → Binds d N x t i → Binds d M y t j → i ≡ j
+  binds_unique i j (inl o) (inl q) = o.0 ∙ sym q.0
+  binds_unique i j (inl o) (inr l) =
       absurd (omega (arith, l.below, own_same (problem_of d) N x M y f.feasible.pos (max_min_unique (problem_of d) N x M y f g) t a o.1))
-  binds-unique i j (inr k) (inl q) =
+  binds_unique i j (inr k) (inl q) =
       absurd (omega (arith, k.below, own_same (problem_of d) M y N x g.feasible.pos (max_min_unique (problem_of d) M y N x g f) t a q.1))
-  binds-unique i j (inr k) (inr l) = links_same i j k l
+  binds_unique i j (inr k) (inr l) = links_same i j k l
 
   -- so two fair allocations have the same binding places
-  pub binding-same : binding_of d N x t ≡ binding_of d M y t
-  binding-same = binds-unique _ _ (binding_binds d N x f t a) (binding_binds d M y g t a)
+  pub binding_same : binding_of d N x t ≡ binding_of d M y t
+  binding_same = binds_unique _ _ (binding_binds d N x f t a) (binding_binds d M y g t a)
 
 -- the places of the results bind, at whatever max-min fair rates
 pub results_bind : (d : Declared) (N : ℕ) (x : ℕ → ℕ) → MaxMinFair (problem_of d) N x → (t : ℕ) → t < 32 → Active (problem_of d) t
@@ -139,5 +139,5 @@ pub results_bind : (d : Declared) (N : ℕ) (x : ℕ → ℕ) → MaxMinFair (pr
 unfolding results_of
 results_bind d N x f t h a =
     let z = figure1 (problem_of d) in
-    subst (Binds d N x t) (binding-same d N x z.den (rate z) f (figure1-fair (problem_of d)) t a ∙ sym (values_at 32 t (binding_of d z.den (rate z)) 0 h))
+    subst (Binds d N x t) (binding_same d N x z.den (rate z) f (figure1_fair (problem_of d)) t a ∙ sym (values_at 32 t (binding_of d z.den (rate z)) 0 h))
     (binding_binds d N x f t a)

@@ -10,7 +10,7 @@ use Rattle.sessions.specs.Set.{cut, has, members_from, put, walk}
 use Rattle.fairness.specs.Figure1.{any, begin, chosen, counts, figure1, fix_at, left_at, lefts, load_at, net, one_round, open_all, open_at, round_on, rounds, smaller, smallest, values}
 use Rattle.fairness.specs.MaxMin.{used}
 use Rattle.fairness.specs.Sum.{sum}
-use Rattle.fairness.proofs.Bottlenecks.{all_below, bottleneck-or-not, by_test, none-has-more, where_passes}
+use Rattle.fairness.proofs.Bottlenecks.{all_below, bottleneck_or_not, by_test, none_has_more, where_passes}
 use Rattle.records.specs.Format.{all, be2, be4, body_at, body_of, change_at, deliver_at, differ, is_new, leave_at, link_at, links_ok, path_ok, read_at, rest_ok, session_at, size_at}
 use Rattle.records.specs.Run.{run_from}
 use Rattle.declarations.specs.Declaring.{copied, declarations_of, declare_of, judge_of, none_declared, own_limit_of, path_declared}
@@ -124,5 +124,5 @@ each f (x ∷ xs) = f x ∷ each f xs
 
 -- every example has the outcome that its document gives
 examples_right : each (λ x. showing (calculate_of x.input nines nines nines)) examples ≡ each (λ x. x.outcome) examples
-unfolding examples each calculate_of done_of results_of written declarations_of declare_of judge_of none_declared path_declared copied own_limit_of all be2 be4 body_at body_of change_at deliver_at differ is_new leave_at link_at links_ok path_ok read_at rest_ok session_at size_at run_from problem_of binding_of bottleneck-or-not none-has-more all_below where_passes by_test says first_of used sum figure1 begin net rounds one_round round_on fix_at lefts counts smallest smaller chosen any values open_all open_at left_at load_at lowest_of gcd_of gcd_in members_from walk has put cut
+unfolding examples each calculate_of done_of results_of written declarations_of declare_of judge_of none_declared path_declared copied own_limit_of all be2 be4 body_at body_of change_at deliver_at differ is_new leave_at link_at links_ok path_ok read_at rest_ok session_at size_at run_from problem_of binding_of bottleneck_or_not none_has_more all_below where_passes by_test says first_of used sum figure1 begin net rounds one_round round_on fix_at lefts counts smallest smaller chosen any values open_all open_at left_at load_at lowest_of gcd_of gcd_in members_from walk has put cut
 examples_right = refl

@@ -29,23 +29,23 @@ use Rattle.calculation.specs.Binding.{Binds}
 use Rattle.calculation.specs.Calculating.{PlacesBind, Ordered, Outcome, Placed, after_records, calculate_of, done_of, refusing, results_of, said_of}
 use Rattle.calculation.specs.declared.Calculated.{Calculated}
 use Rattle.calculation.specs.declared.Calculated.TheVariants as calculated
-use Rattle.calculation.proofs.BindingPlaces.{binds-unique, results_bind}
+use Rattle.calculation.proofs.BindingPlaces.{binds_unique, results_bind}
 use Rattle.calculation.proofs.Writing.{written_at}
 
 module _ (s nums dens places : List ℕ) where
   -- refusal 15
-  pub short-first : length nums < 32 → calculate_of s nums dens places ≡ refusing (calculated.Refused refusal.ShortSlice 0) nums dens places
+  pub short_first : length nums < 32 → calculate_of s nums dens places ≡ refusing (calculated.Refused refusal.ShortSlice 0) nums dens places
   unfolding calculate_of
-  short-first h = rw (lt-ltb _ _ h)
+  short_first h = rw (lt-ltb _ _ h)
 
-  pub short-second : 32 ≤ length nums → length dens < 32 → calculate_of s nums dens places ≡ refusing (calculated.Refused refusal.ShortSlice 0) nums dens places
+  pub short_second : 32 ≤ length nums → length dens < 32 → calculate_of s nums dens places ≡ refusing (calculated.Refused refusal.ShortSlice 0) nums dens places
   unfolding calculate_of
-  short-second a h = rw (le-ltb _ _ a, lt-ltb _ _ h)
+  short_second a h = rw (le-ltb _ _ a, lt-ltb _ _ h)
 
-  pub short-third : 32 ≤ length nums → 32 ≤ length dens → length places < 32
+  pub short_third : 32 ≤ length nums → 32 ≤ length dens → length places < 32
       → calculate_of s nums dens places ≡ refusing (calculated.Refused refusal.ShortSlice 0) nums dens places
   unfolding calculate_of
-  short-third a b h = rw (le-ltb _ _ a, le-ltb _ _ b, lt-ltb _ _ h)
+  short_third a b h = rw (le-ltb _ _ a, le-ltb _ _ b, lt-ltb _ _ h)
 
   module _ (a : 32 ≤ length nums) (b : 32 ≤ length dens) (c : 32 ≤ length places) where
     -- refusal 1
@@ -54,16 +54,16 @@ module _ (s nums dens places : List ℕ) where
     too_long h = rw (le-ltb _ _ a, le-ltb _ _ b, le-ltb _ _ c, lt-ltb _ _ h)
 
     -- then the records
-    pub by-records : length s ≤ 32768 → calculate_of s nums dens places ≡ after_records (declarations_of s).end (declarations_of s).declared nums dens places
+    pub by_records : length s ≤ 32768 → calculate_of s nums dens places ≡ after_records (declarations_of s).end (declarations_of s).declared nums dens places
     unfolding calculate_of
-    by-records h = rw (le-ltb _ _ a, le-ltb _ _ b, le-ltb _ _ c, le-ltb _ _ h)
+    by_records h = rw (le-ltb _ _ a, le-ltb _ _ b, le-ltb _ _ c, le-ltb _ _ h)
 
     -- an input that is read to its end, and is not too long, is accepted
     pub accepted : length s ≤ 32768 → (declarations_of s).end ≡ end.Finished
         → (calculate_of s nums dens places).answer ≡ calculated.Done (declarations_of s).declared.links (declarations_of s).declared.sessions
     unfolding done_of
     accepted h e =
-        ap (λ (o : Outcome). o.answer) (by-records h ∙ ap (λ (x : End). after_records x (declarations_of s).declared nums dens places) e)
+        ap (λ (o : Outcome). o.answer) (by_records h ∙ ap (λ (x : End). after_records x (declarations_of s).declared nums dens places) e)
 
 -- "The calculation then writes nothing": where the number of the answer is a refusal's, the three slices are as they were
 abbrev Unwritten : List ℕ → List ℕ → List ℕ → Outcome → Type 0
@@ -170,5 +170,5 @@ pub places_unique : (s : List ℕ) (links sessions : ℕ) (n d p n' d' p' : List
     → PlacesBind s (calculated.Done links sessions) n d p → PlacesBind s (calculated.Done links sessions) n' d' p'
     → (t : ℕ) → Active (problem_of (declarations_of s).declared) t → get_or p t 0 ≡ get_or p' t 0
 places_unique s links sessions n d p n' d' p' a b t h =
-    binds-unique (declarations_of s).declared a.answer.over a.answer.rates b.answer.over b.answer.rates a.answer.fair b.answer.fair t h
+    binds_unique (declarations_of s).declared a.answer.over a.answer.rates b.answer.over b.answer.rates a.answer.fair b.answer.fair t h
     (get_or p t 0) (get_or p' t 0) (a.binds t h) (b.binds t h)

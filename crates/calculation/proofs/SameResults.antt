@@ -18,8 +18,8 @@ use Rattle.fairness.specs.Figure1.{figure1, rate}
 use Rattle.fairness.specs.MaxMin.{Active, Bottleneck}
 use Rattle.fairness.proofs.Answers.{answer_unique, figure1_answer}
 use Rattle.fairness.proofs.Anys.{any_at}
-use Rattle.fairness.proofs.Bottlenecks.{bottleneck-or-not}
-use Rattle.fairness.proofs.Figure1IsFair.{figure1-fair}
+use Rattle.fairness.proofs.Bottlenecks.{bottleneck_or_not}
+use Rattle.fairness.proofs.Figure1IsFair.{figure1_fair}
 use Rattle.fairness.proofs.Running.{values_at}
 use Rattle.declarations.specs.declared.Declared.{Declared}
 use Rattle.filling.specs.Lines.{Filled, problem_of}
@@ -29,7 +29,7 @@ use Rattle.calculation.specs.Binding.{binding_by_last, binding_of, bottleneck_by
 use Rattle.calculation.specs.Calculating.{results_of}
 use Rattle.calculation.specs.Results.{Found}
 use Rattle.calculation.specs.declared.Results.{Results}
-use Rattle.calculation.proofs.BindingPlaces.{binding-same, says_so, so_says}
+use Rattle.calculation.proofs.BindingPlaces.{binding_same, says_so, so_says}
 use Rattle.calculation.proofs.FirstOf.{first_cong}
 
 -- a declared session is active
@@ -75,7 +75,7 @@ module _ (d : Declared) (z : Fixed) (f : Filled d z) (t : ℕ) (a : Active (prob
       → bottleneck_by_last z.rate z.room z.last (x t) (byte_at d.path t h) ≡ is_bottleneck d z.den x t (byte_at d.path t h)
   agrees h l =
       let e = byte_at d.path t h in
-      let b = bottleneck-or-not (problem_of d) z.den x t e in
+      let b = bottleneck_or_not (problem_of d) z.den x t e in
       same_test _ (says b) (λ q. so_says b (tested e (crosses_there h l) q)) (λ q. passes e (says_so b q))
 
   place_is_binding : binding_by_last d.path z.rate z.room z.last (z.den * (problem_of d).D t) t ≡ binding_of d z.den x t
@@ -99,18 +99,18 @@ module _ (d : Declared) (z : Fixed) (v : Results) (f : Filled d z) (found : Foun
   same_rate : (t : ℕ) → Active (problem_of d) t → lowest_of (get_or z.rate t 0) z.den ≡ figure1_rate (problem_of d) t
   same_rate = answer_unique (problem_of d) _ _ (filled_answer d z f) (figure1_answer (problem_of d))
 
-  pub same-nums : (t : ℕ) → t < 32 → has t d.sessions ≡ 1 → get_or v.nums t 0 ≡ get_or (results_of d).nums t 0
+  pub same_nums : (t : ℕ) → t < 32 → has t d.sessions ≡ 1 → get_or v.nums t 0 ≡ get_or (results_of d).nums t 0
   unfolding results_of
-  same-nums t h m = found.num t h m ∙ (ap (λ (r : Rate). r.num) (same_rate t (active d t h m)) ∙ sym (values_at 32 t _ 0 h))
+  same_nums t h m = found.num t h m ∙ (ap (λ (r : Rate). r.num) (same_rate t (active d t h m)) ∙ sym (values_at 32 t _ 0 h))
 
-  pub same-dens : (t : ℕ) → t < 32 → has t d.sessions ≡ 1 → get_or v.dens t 0 ≡ get_or (results_of d).dens t 0
+  pub same_dens : (t : ℕ) → t < 32 → has t d.sessions ≡ 1 → get_or v.dens t 0 ≡ get_or (results_of d).dens t 0
   unfolding results_of
-  same-dens t h m = found.den t h m ∙ (ap (λ (r : Rate). r.den) (same_rate t (active d t h m)) ∙ sym (values_at 32 t _ 0 h))
+  same_dens t h m = found.den t h m ∙ (ap (λ (r : Rate). r.den) (same_rate t (active d t h m)) ∙ sym (values_at 32 t _ 0 h))
 
-  pub same-places : (t : ℕ) → t < 32 → has t d.sessions ≡ 1 → get_or v.places t 0 ≡ get_or (results_of d).places t 0
+  pub same_places : (t : ℕ) → t < 32 → has t d.sessions ≡ 1 → get_or v.places t 0 ≡ get_or (results_of d).places t 0
   unfolding results_of problem_of
-  same-places t h m =
+  same_places t h m =
       found.place t h m
       ∙ (place_is_binding d z f t (active d t h m)
-      ∙ binding-same d z.den (λ s. get_or z.rate s 0) (figure1 (problem_of d)).den (rate (figure1 (problem_of d))) f.fair (figure1-fair (problem_of d)) t (active d t h m)
+      ∙ binding_same d z.den (λ s. get_or z.rate s 0) (figure1 (problem_of d)).den (rate (figure1 (problem_of d))) f.fair (figure1_fair (problem_of d)) t (active d t h m)
       ∙ sym (values_at 32 t _ 0 h))

@@ -3,7 +3,7 @@
 use Rattle.std.specs.Prelude.{Bool, ◌&&◌, cond, false, true, List, [], ◌∷◌, ◌⊎◌, ◌≡◌, ℕ, ◌+◌, ◌*◌, ◌<◌, eqb, leb, ltb, get_or}
 use Rattle.fairness.specs.Figure1.{values}
 use Rattle.fairness.specs.MaxMin.{Bottleneck}
-use Rattle.fairness.proofs.Bottlenecks.{bottleneck-or-not}
+use Rattle.fairness.proofs.Bottlenecks.{bottleneck_or_not}
 use Rattle.search.specs.Crossing.{byte_at}
 use Rattle.declarations.specs.declared.Declared.{Declared}
 use Rattle.filling.specs.Lines.{problem_of}
@@ -45,7 +45,7 @@ says (no n) = false
 
 -- whether link e is a bottleneck of session t
 abbrev pub is_bottleneck : Declared → ℕ → (ℕ → ℕ) → ℕ → ℕ → Bool
-is_bottleneck d N x t e = says (bottleneck-or-not (problem_of d) N x t e)
+is_bottleneck d N x t e = says (bottleneck_or_not (problem_of d) N x t e)
 
 -- "own" if the rate equals D, else the first link of the path that is a bottleneck of the session
 unfoldable pub binding_of : Declared → ℕ → (ℕ → ℕ) → ℕ → ℕ

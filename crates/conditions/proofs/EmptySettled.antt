@@ -9,7 +9,7 @@ use Rattle.links.specs.Links.{in_f, in_r}
 use Rattle.records.proofs.Somes.{clash}
 use Rattle.table.specs.Words.{empty_words, place_of, source_of}
 use Rattle.table.proofs.Empty.{empty_count}
-use Rattle.table.proofs.EmptyLinks.{empty_sum, none_active, none_in-F, none_in-R}
+use Rattle.table.proofs.EmptyLinks.{empty_sum, none_active, none_in_f, none_in_r}
 use Rattle.conditions.specs.Conditions.{FiveConditions}
 use Rattle.conditions.specs.Settled.{settled_of}
 use Rattle.conditions.proofs.Means.{means_settled}
@@ -24,8 +24,8 @@ all_hold = record {
   c =
       λ e l.
       record {
-        restricted = λ s k t. absurd (clash (in_r (place_of empty_words e) s) t (none_in-R e s));
-        free = λ s k t. absurd (clash (in_f (place_of empty_words e) s) t (none_in-F e s));
+        restricted = λ s k t. absurd (clash (in_r (place_of empty_words e) s) t (none_in_r e s));
+        free = λ s k t. absurd (clash (in_f (place_of empty_words e) s) t (none_in_f e s));
         unrestricted = λ f. record { sum = zero_of; sums = empty_sum e; most = record { cross = omega arith } };
       };
   d = λ s l t. inactive s t;

@@ -88,5 +88,5 @@ module _ (w : List ℕ) where
       (λ s l. ap₂ ◌&&◌ (all_at 32 (session_rests w) s b.0 l) (ap₂ ◌&&◌ (all_at 32 (session_limited w) s d.0 l) (all_at 32 (session_told w) s d.1 l))))
       c.0)
 
-  pub settled-once : (condition_a w && (all 32 (session_settles w) && condition_c w)) ≡ settled_of w
-  settled-once = same_test (condition_a w && (all 32 (session_settles w) && condition_c w)) (settled_of w) once_conditions conditions_once
+  pub settled_once : (condition_a w && (all 32 (session_settles w) && condition_c w)) ≡ settled_of w
+  settled_once = same_test (condition_a w && (all 32 (session_settles w) && condition_c w)) (settled_of w) once_conditions conditions_once

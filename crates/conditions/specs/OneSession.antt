@@ -1,4 +1,4 @@
--- What "settled" asks of one session, put together: (b), (d) and (e). With (a) and (c) that is all of it (`settled-once`, proofs/OneSession.antt).
+-- What "settled" asks of one session, put together: (b), (d) and (e). With (a) and (c) that is all of it (`settled_once`, proofs/OneSession.antt).
 -- Assumes nothing: definitions.
 use Rattle.std.specs.Prelude.{Bool, ◌&&◌, List, ◌≡◌, ℕ}
 use Rattle.sessions.specs.Set.{has_of}

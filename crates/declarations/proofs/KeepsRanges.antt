@@ -9,7 +9,7 @@ use Rattle.records.specs.Limits.{rate_limit}
 use Rattle.records.specs.declared.Call.TheVariants as call
 use Rattle.records.specs.declared.Record.{Record}
 use Rattle.records.specs.declared.Record.TheVariants as rec
-use Rattle.records.proofs.Runs.{run-keeps}
+use Rattle.records.proofs.Runs.{run_keeps}
 use Rattle.declarations.specs.Declaring.{declarations_of, declare_of, judging, none_declared}
 use Rattle.declarations.specs.declared.Declared.{Declared}
 
@@ -56,4 +56,4 @@ declare_in_range s d (rec.Deliver n) p h = record { capacity = p.capacity; acces
 pub declarations_in_range : (s : List ℕ) → Bytes s → InRange (declarations_of s).declared
 unfolding declarations_of
 declarations_in_range s bytes =
-    run-keeps InRange call.Calculation (judging s) (declare_of s) s bytes (λ z x p o t. declare_in_range s z x p o) (length s) none_declared 0 0 none_in_range
+    run_keeps InRange call.Calculation (judging s) (declare_of s) s bytes (λ z x p o t. declare_in_range s z x p o) (length s) none_declared 0 0 none_in_range

@@ -13,14 +13,14 @@ use Rattle.records.specs.Format.{Bytes}
 use Rattle.records.specs.declared.Call.TheVariants as call
 use Rattle.records.specs.declared.Record.{Record}
 use Rattle.records.specs.declared.Record.TheVariants as rec
-use Rattle.records.proofs.Runs.{run-keeps}
+use Rattle.records.proofs.Runs.{run_keeps}
 use Rattle.declarations.specs.Declaring.{declarations_of, declare_of, judging, none_declared}
 use Rattle.declarations.specs.declared.Declared.{Declared}
 use Rattle.declarations.proofs.KeepsRanges.{zeros_at_most}
 
 pub undeclared_none : (s : List ℕ) → Bytes s → (e : ℕ) → has e (declarations_of s).declared.links ≡ 0 → get_or (declarations_of s).declared.capacity e 0 ≡ 0
 unfolding declarations_of declare_of none_declared
-undeclared_none s bytes = run-keeps None call.Calculation (judging s) (declare_of s) s bytes (λ z x p o t. keeps z x p) (length s) none_declared 0 0 start
+undeclared_none s bytes = run_keeps None call.Calculation (judging s) (declare_of s) s bytes (λ z x p o t. keeps z x p) (length s) none_declared 0 0 start
   where
     None : Declared → Type 0
     None d = (e : ℕ) → has e d.links ≡ 0 → get_or d.capacity e 0 ≡ 0

@@ -12,27 +12,27 @@ use Rattle.ends.specs.Figure3.{again_of, announced_of, arrived_of, assigned_of, 
 
 module _ (z : Source) (x : Rate) where
   -- upd_rcv is noted: the source asks again
-  pub again-bottleneck : z.updated ≡ true → source_response_of z tau.Bottleneck x ≡ again_of z
+  pub again_bottleneck : z.updated ≡ true → source_response_of z tau.Bottleneck x ≡ again_of z
   unfolding source_response_of
-  again-bottleneck e = chosen z.updated true (again_of z) (announced_of (idle_with z x)) e
+  again_bottleneck e = chosen z.updated true (again_of z) (announced_of (idle_with z x)) e
 
-  pub again-response : z.updated ≡ true → source_response_of z tau.Response x ≡ again_of z
+  pub again_response : z.updated ≡ true → source_response_of z tau.Response x ≡ again_of z
   unfolding source_response_of
-  again-response e = chosen z.updated true (again_of z) (assigned_of z x) e
+  again_response e = chosen z.updated true (again_of z) (assigned_of z x) e
 
   -- it is not: the rate is taken
-  pub taken-bottleneck : z.updated ≡ false → source_response_of z tau.Bottleneck x ≡ announced_of (idle_with z x)
+  pub taken_bottleneck : z.updated ≡ false → source_response_of z tau.Bottleneck x ≡ announced_of (idle_with z x)
   unfolding source_response_of
-  taken-bottleneck e = chosen z.updated false (again_of z) (announced_of (idle_with z x)) e
+  taken_bottleneck e = chosen z.updated false (again_of z) (announced_of (idle_with z x)) e
 
-  pub taken-response : z.updated ≡ false → source_response_of z tau.Response x ≡ assigned_of z x
+  pub taken_response : z.updated ≡ false → source_response_of z tau.Response x ≡ assigned_of z x
   unfolding source_response_of
-  taken-response e = chosen z.updated false (again_of z) (assigned_of z x) e
+  taken_response e = chosen z.updated false (again_of z) (assigned_of z x) e
 
 module _ (k : Kind) (z : Source) where
-  pub step-active : z.active ≡ true → source_step_of k z ≡ arrived_of k z
+  pub step_active : z.active ≡ true → source_step_of k z ≡ arrived_of k z
   unfolding source_step_of
-  step-active e = chosen z.active true (arrived_of k z) (doing z onward.Nothing) e
+  step_active e = chosen z.active true (arrived_of k z) (doing z onward.Nothing) e
 
   pub step_left : z.active ≡ false → source_step_of k z ≡ doing z onward.Nothing
   unfolding source_step_of

@@ -10,26 +10,26 @@ use Rattle.records.specs.declared.Record.TheVariants as rec
 use Rattle.records.specs.declared.Refusal.TheVariants as refusal
 use Rattle.table.specs.Words.{source_of}
 use Rattle.events.specs.Events.{event_of, refusing}
-use Rattle.events.proofs.Steps.{change-above, change-not, join-above, join-active}
+use Rattle.events.proofs.Steps.{change_above, change_not, join_above, join_active}
 
 -- a session record: 7 whatever the maximum, then 16 whatever the path (8) and the packets in flight (10, 13)
 module _ (s w : List ℕ) (t access maximum n at : ℕ) where
-  pub seven-before-16 : (source_of w t).active ≡ true → event_of s w (rec.Session t access maximum n at) ≡ refusing refusal.AlreadyThere w
+  pub seven_before_16 : (source_of w t).active ≡ true → event_of s w (rec.Session t access maximum n at) ≡ refusing refusal.AlreadyThere w
   unfolding event_of
-  seven-before-16 a = join-active s w t access maximum n at (source_of w t) refl a
+  seven_before_16 a = join_active s w t access maximum n at (source_of w t) refl a
 
-  pub sixteen-before-8-10-13 : (source_of w t).active ≡ false → above_line access maximum ≡ true
+  pub sixteen_before_8_10_13 : (source_of w t).active ≡ false → above_line access maximum ≡ true
       → event_of s w (rec.Session t access maximum n at) ≡ refusing refusal.AboveLine w
   unfolding event_of
-  sixteen-before-8-10-13 a b = join-above s w t access maximum n at (source_of w t) refl a b
+  sixteen_before_8_10_13 a b = join_above s w t access maximum n at (source_of w t) refl a b
 
 -- a change: 9 whatever the maximum, then 16 whatever the packets in flight (13), against the access rate that the table holds
 module _ (s w : List ℕ) (t maximum : ℕ) where
-  pub nine-before-16 : (source_of w t).active ≡ false → event_of s w (rec.Change t maximum) ≡ refusing refusal.NotActive w
+  pub nine_before_16 : (source_of w t).active ≡ false → event_of s w (rec.Change t maximum) ≡ refusing refusal.NotActive w
   unfolding event_of
-  nine-before-16 a = change-not w t (source_of w t) refl maximum a
+  nine_before_16 a = change_not w t (source_of w t) refl maximum a
 
-  pub sixteen-before-13 : (source_of w t).active ≡ true → above_line (source_of w t).access maximum ≡ true
+  pub sixteen_before_13 : (source_of w t).active ≡ true → above_line (source_of w t).access maximum ≡ true
       → event_of s w (rec.Change t maximum) ≡ refusing refusal.AboveLine w
   unfolding event_of
-  sixteen-before-13 a b = change-above w t (source_of w t) refl maximum a true (sym b) refl
+  sixteen_before_13 a b = change_above w t (source_of w t) refl maximum a true (sym b) refl

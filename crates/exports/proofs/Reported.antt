@@ -53,14 +53,14 @@ module _ (s report nums dens : List ℕ) where
   not_refused : (r : Refusal) (place : ℕ) → report ≡ calculation_report_of (calculated.Refused r place) → get_or report 0 0 ≡ 0 → ⊥
   not_refused r place e z = omega (arith, numbered r, sym (ap (λ (l : List ℕ). get_or l 0 0) e) ∙ z)
 
-  pub fair-where-taken : (a : Calculated) → report ≡ calculation_report_of a → Ordered s a nums dens → FairWhereTaken s report nums dens
-  fair-where-taken (calculated.Done links sessions) e fair z = fair
-  fair-where-taken (calculated.Refused r place) e fair z = absurd (not_refused r place e z)
+  pub fair_where_taken : (a : Calculated) → report ≡ calculation_report_of a → Ordered s a nums dens → FairWhereTaken s report nums dens
+  fair_where_taken (calculated.Done links sessions) e fair z = fair
+  fair_where_taken (calculated.Refused r place) e fair z = absurd (not_refused r place e z)
 
-  pub binds-where-taken : (places : List ℕ) (a : Calculated) → report ≡ calculation_report_of a → PlacesBind s a nums dens places
+  pub binds_where_taken : (places : List ℕ) (a : Calculated) → report ≡ calculation_report_of a → PlacesBind s a nums dens places
       → BindsWhereTaken s report nums dens places
-  binds-where-taken places (calculated.Done links sessions) e bound z = bound
-  binds-where-taken places (calculated.Refused r place) e bound z = absurd (not_refused r place e z)
+  binds_where_taken places (calculated.Done links sessions) e bound z = bound
+  binds_where_taken places (calculated.Refused r place) e bound z = absurd (not_refused r place e z)
 
 -- a run's report and table, from what the run comes to
 pub run_reported : (r : Ran) (u report : List ℕ) (m : records.Ran (List ℕ)) → ran_of r u ≡ m → report ≡ end_report_of r.taken r.end
@@ -83,5 +83,5 @@ module _ (w out after : List ℕ) where
   records_mean_of (wrote.Bytes n) m = record { written = λ z. m; refused = λ z. absurd (z refl) }
   records_mean_of (wrote.Refused r place) m = record { written = λ z. absurd (omega (arith, numbered r, z)); refused = λ z. m }
 
-  pub records-mean : (a : Wrote) (report : List ℕ) → report ≡ wrote_report_of a → present.Means w out after a → RecordsMean w out after report
-  records-mean a report e m = subst (RecordsMean w out after) (sym e) (records_mean_of a m)
+  pub records_mean : (a : Wrote) (report : List ℕ) → report ≡ wrote_report_of a → present.Means w out after a → RecordsMean w out after report
+  records_mean a report e m = subst (RecordsMean w out after) (sym e) (records_mean_of a m)

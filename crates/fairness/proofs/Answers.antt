@@ -9,7 +9,7 @@ use Rattle.fractions.proofs.Order.{same_sym, same_trans}
 use Rattle.fairness.specs.Answer.{Answer, figure1_rate}
 use Rattle.fairness.specs.Figure1.{figure1, rate}
 use Rattle.fairness.specs.MaxMin.{Active, Problem}
-use Rattle.fairness.proofs.Figure1IsFair.{figure1-denominator, figure1-fair}
+use Rattle.fairness.proofs.Figure1IsFair.{figure1_denominator, figure1_fair}
 use Rattle.fairness.proofs.Uniqueness.{max_min_unique}
 
 -- no second result: the same numerator and the same denominator
@@ -27,15 +27,15 @@ figure1_answer p =
     record {
       over = (figure1 p).den;
       rates = rate (figure1 p);
-      fair = figure1-fair p;
+      fair = figure1_fair p;
       shown = λ s h. lowest_same (rate (figure1 p) s) (figure1 p).den;
-      lowest = λ s h. lowest_lowest (rate (figure1 p) s) (figure1 p).den (figure1-fair p).feasible.pos;
+      lowest = λ s h. lowest_lowest (rate (figure1 p) s) (figure1 p).den (figure1_fair p).feasible.pos;
     }
 
 -- 01: with 32 sessions every rate has a denominator of at most 118,098
 pub answer_denominator : (p : Problem) (r : ℕ → Rate) → p.sessions ≤ 32 → Answer p r → (s : ℕ) → Active p s → (r s).den ≤ 118098
 answer_denominator p r few a s h =
     let N = (figure1 p).den in
-    let pos = (figure1-fair p).feasible.pos in
+    let pos = (figure1_fair p).feasible.pos in
     rw (answer_unique p r (figure1_rate p) a (figure1_answer p) s h)
-    (le_trans (lowest_den (rate (figure1 p) s) N pos (lowest_lowest (rate (figure1 p) s) N pos) (lowest_same (rate (figure1 p) s) N)) (figure1-denominator p few))
+    (le_trans (lowest_den (rate (figure1 p) s) N pos (lowest_lowest (rate (figure1 p) s) N pos) (lowest_same (rate (figure1 p) s) N)) (figure1_denominator p few))

@@ -31,8 +31,8 @@ all_below A f (suc n) = both (f n) (all_below A f n)
 
 module _ (p : Problem) (N : ℕ) (x : ℕ → ℕ) (s e : ℕ) where
   -- "no session on it has more"
-  unfoldable pub none-has-more : Dec ((t : ℕ) → t < p.sessions → T (p.active t) → T (p.crosses e t) → x t ≤ x s)
-  none-has-more =
+  unfoldable pub none_has_more : Dec ((t : ℕ) → t < p.sessions → T (p.active t) → T (p.crosses e t) → x t ≤ x s)
+  none_has_more =
       all_below (λ t. T (p.active t) → T (p.crosses e t) → x t ≤ x s)
       (λ t.
       where_passes (p.active t)
@@ -40,13 +40,13 @@ module _ (p : Problem) (N : ℕ) (x : ℕ → ℕ) (s e : ℕ) where
       (by_test (leb (x t) (x s)) (leb→le (x t) (x s)) (le→leb (x t) (x s)))))
       p.sessions
 
-  unfoldable pub bottleneck-or-not : Dec (Bottleneck p N x s e)
-  bottleneck-or-not =
+  unfoldable pub bottleneck_or_not : Dec (Bottleneck p N x s e)
+  bottleneck_or_not =
       parts
       (by_test (ltb e p.links) (ltb→lt e p.links) (lt→ltb e p.links))
       (by_test (p.crosses e s) (λ q. q) (λ q. q))
       (by_test (eqb (used p x e) (N * p.capacity e)) (eqb→eq _ _) (eqb-T _ _))
-      none-has-more
+      none_has_more
     where
       parts : Dec (e < p.links) → Dec (T (p.crosses e s)) → Dec (used p x e ≡ N * p.capacity e)
           → Dec ((t : ℕ) → t < p.sessions → T (p.active t) → T (p.crosses e t) → x t ≤ x s) → Dec (Bottleneck p N x s e)

@@ -75,12 +75,12 @@ module _ (p : Problem) (N : ℕ) (x : ℕ → ℕ) (d : ℕ → Bool) (i : Filli
             );
       }
 
-  pub filling-ends-restricted : (s : ℕ) → Active p s → Restricted p N x s
+  pub filling_ends_restricted : (s : ℕ) → Active p s → Restricted p N x s
   unfolding net
-  filling-ends-restricted s h = let b = i.held s h.0 (fixed s h.0) in restricted_of_net p N x s b.0 h b.1
+  filling_ends_restricted s h = let b = i.held s h.0 (fixed s h.0) in restricted_of_net p N x s b.0 h b.1
 
-  pub filling-ends-fair : MaxMinFair p N x
-  filling-ends-fair = bottleneck_criterion p N x filling_feasible filling-ends-restricted
+  pub filling_ends_fair : MaxMinFair p N x
+  filling_ends_fair = bottleneck_criterion p N x filling_feasible filling_ends_restricted
 
 -- THE FIGURE ----------------------------------------------------------------------------------------------------------
 
@@ -107,13 +107,13 @@ module _ (p : Problem) where
   figure1_fixed = all_fixed (net p) (net_crosses p) (is_fixed (figure1 p)) figure1_filled.1
 
   -- with at most 32 sessions its denominator is at most 118,098
-  pub figure1-denominator : p.sessions ≤ 32 → (figure1 p).den ≤ 118098
-  figure1-denominator h = small_32 (net p) (weight_32 p h) _ _ (figure1_filled.0.small (weight_32 p h))
+  pub figure1_denominator : p.sessions ≤ 32 → (figure1 p).den ≤ 118098
+  figure1_denominator h = small_32 (net p) (weight_32 p h) _ _ (figure1_filled.0.small (weight_32 p h))
 
   -- every session has its own limit or a bottleneck
-  pub figure1-restricted : (s : ℕ) → Active p s → Restricted p (figure1 p).den (rate (figure1 p)) s
-  figure1-restricted = filling-ends-restricted p _ _ _ figure1_filled.0.inv figure1_fixed
+  pub figure1_restricted : (s : ℕ) → Active p s → Restricted p (figure1 p).den (rate (figure1 p)) s
+  figure1_restricted = filling_ends_restricted p _ _ _ figure1_filled.0.inv figure1_fixed
 
   -- the rates of Figure 1 are max-min fair
-  pub figure1-fair : MaxMinFair p (figure1 p).den (rate (figure1 p))
-  figure1-fair = filling-ends-fair p _ _ _ figure1_filled.0.inv figure1_fixed
+  pub figure1_fair : MaxMinFair p (figure1 p).den (rate (figure1 p))
+  figure1_fair = filling_ends_fair p _ _ _ figure1_filled.0.inv figure1_fixed

@@ -30,20 +30,20 @@ module _ (p : Problem) (N : ℕ) (x : ℕ → ℕ) (M : ℕ) (y : ℕ → ℕ) (
   own_same s h q = eq_of_mul-eq-mul_right N pos (y s) (M * p.D s) (omega (arith, same s h, ap (λ v. v * M) q))
 
   -- a full link
-  pub full-same : (e : ℕ) → used p x e ≡ N * p.capacity e → used p y e ≡ M * p.capacity e
-  full-same e q = eq_of_mul-eq-mul_right N pos (used p y e) (M * p.capacity e) (omega (arith, used_same e, ap (λ v. M * v) q))
+  pub full_same : (e : ℕ) → used p x e ≡ N * p.capacity e → used p y e ≡ M * p.capacity e
+  full_same e q = eq_of_mul-eq-mul_right N pos (used p y e) (M * p.capacity e) (omega (arith, used_same e, ap (λ v. M * v) q))
 
   -- a bottleneck
-  pub bottleneck-same : (s : ℕ) → Active p s → (e : ℕ) → Bottleneck p N x s e → Bottleneck p M y s e
-  bottleneck-same s h e k =
+  pub bottleneck_same : (s : ℕ) → Active p s → (e : ℕ) → Bottleneck p N x s e → Bottleneck p M y s e
+  bottleneck_same s h e k =
       record {
         is_a_link = k.is_a_link;
         crosses = k.crosses;
-        full = full-same e k.full;
+        full = full_same e k.full;
         most = λ t ht o. le_of_mul-le-mul_right {k = N} (omega (arith, same s h, same t ht, mul-le-mul_right M (k.most t ht o))) pos;
       }
 
   -- the own limit or a bottleneck
-  pub restricted-same : (s : ℕ) → Active p s → Restricted p N x s → Restricted p M y s
-  restricted-same s h (inl q) = inl (own_same s h q)
-  restricted-same s h (inr k) = inr (k.0, bottleneck-same s h k.0 k.1)
+  pub restricted_same : (s : ℕ) → Active p s → Restricted p N x s → Restricted p M y s
+  restricted_same s h (inl q) = inl (own_same s h q)
+  restricted_same s h (inr k) = inr (k.0, bottleneck_same s h k.0 k.1)

@@ -47,9 +47,9 @@ a_member false r h = absurd (omega arith)
 module _ (p : Problem) (N : ℕ) (x : ℕ → ℕ) (e : ℕ) (R : ℕ → Bool) (l : SettledLink p N x e R) where
   -- a member of R
   module _ (s : ℕ) (h : Active p s) (c : T (p.crosses e s)) (r : T (R s)) where
-    some-R : 0 < size_r p R e
+    some_r : 0 < size_r p R e
     unfolding size_r
-    some-R =
+    some_r =
         omega (
           arith,
           sum_at p.sessions (λ s. part (p.active s && p.crosses e s) (part (R s) 1)) s h.0,
@@ -57,7 +57,7 @@ module _ (p : Problem) (N : ℕ) (x : ℕ → ℕ) (e : ℕ) (R : ℕ → Bool) 
         )
 
     same_rate : (t : ℕ) → Active p t → T (p.crosses e t) → T (R t) → x t ≡ x s
-    same_rate t ht ct rt = eq_of_mul-eq-mul_right (size_r p R e) some-R (x t) (x s) (omega (arith, l.equal t ht ct rt, l.equal s h c r))
+    same_rate t ht ct rt = eq_of_mul-eq-mul_right (size_r p R e) some_r (x t) (x s) (omega (arith, l.equal t ht ct rt, l.equal s h c r))
 
     full : used p x e ≡ N * p.capacity e
     full = used_is p x e R (x s) same_rate ∙ l.equal s h c r
@@ -67,11 +67,11 @@ module _ (p : Problem) (N : ℕ) (x : ℕ → ℕ) (e : ℕ) (R : ℕ → Bool) 
       where
         go : T (R t) ⊎ T (not (R t)) → x t ≤ x s
         go (inl rt) = omega (arith, same_rate t ht ct rt)
-        go (inr ft) = le_of_mul-le-mul_right {k = size_r p R e} (omega (arith, l.below t ht ct ft some-R, l.equal s h c r)) some-R
+        go (inr ft) = le_of_mul-le-mul_right {k = size_r p R e} (omega (arith, l.below t ht ct ft some_r, l.equal s h c r)) some_r
 
-  pub settled-fits : used p x e ≤ N * p.capacity e
+  pub settled_fits : used p x e ≤ N * p.capacity e
   unfolding size_r
-  settled-fits = go (order (size_r p R e) 0)
+  settled_fits = go (order (size_r p R e) 0)
     where
       go : (size_r p R e ≤ 0) ⊎ (0 < size_r p R e) → used p x e ≤ N * p.capacity e
       go (inl z) =
@@ -82,7 +82,7 @@ module _ (p : Problem) (N : ℕ) (x : ℕ → ℕ) (e : ℕ) (R : ℕ → Bool) 
                 absurd
                 (omega (
                   arith,
-                  some-R t h c r,
+                  some_r t h c r,
                 ))),
             l.empty (omega arith),
           )
@@ -92,16 +92,16 @@ module _ (p : Problem) (N : ℕ) (x : ℕ → ℕ) (e : ℕ) (R : ℕ → Bool) 
           let u = and_split (p.active f.0) (p.crosses e f.0) m.0 in
           omega (arith, full f.0 (f.1, u.0) u.1 m.1)
 
-  pub settled-bottleneck : e < p.links → (s : ℕ) → Active p s → T (p.crosses e s) → T (R s) → Bottleneck p N x s e
-  settled-bottleneck b s h c r = record { is_a_link = b; crosses = c; full = full s h c r; most = most s h c r }
+  pub settled_bottleneck : e < p.links → (s : ℕ) → Active p s → T (p.crosses e s) → T (R s) → Bottleneck p N x s e
+  settled_bottleneck b s h c r = record { is_a_link = b; crosses = c; full = full s h c r; most = most s h c r }
 
 -- a settled values has the max-min fair rates
 pub settled_is_fair : (p : Problem) (N : ℕ) (x : ℕ → ℕ) (R : ℕ → ℕ → Bool) → SettledRates p N x R → MaxMinFair p N x
 settled_is_fair p N x R z =
     bottleneck_criterion p N x
-    (record { pos = z.pos; fits = λ e h. settled-fits p N x e (R e) (z.links e h); own = z.own })
+    (record { pos = z.pos; fits = λ e h. settled_fits p N x e (R e) (z.links e h); own = z.own })
     (λ s h. go s h (z.restricted s h))
   where
     go : (s : ℕ) → Active p s → (x s ≡ N * p.D s) ⊎ ((e : ℕ) × (e < p.links) × T (p.crosses e s) × T (R e s)) → Restricted p N x s
     go s h (inl q) = inl q
-    go s h (inr k) = inr (k.0, settled-bottleneck p N x k.0 (R k.0) (z.links k.0 k.1) k.1 s h k.2 k.3)
+    go s h (inr k) = inr (k.0, settled_bottleneck p N x k.0 (R k.0) (z.links k.0 k.1) k.1 s h k.2 k.3)

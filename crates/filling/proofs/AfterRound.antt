@@ -28,7 +28,7 @@ use Rattle.filling.specs.OneRound.{LinksAfter, Remembered, Running, fixed_in}
 use Rattle.filling.specs.SmallestShare.{LinksFit, parts_limit, word_of}
 use Rattle.filling.specs.State.{Fill, Links, fill_of}
 use Rattle.filling.specs.declared.Given.{Given}
-use Rattle.filling.proofs.OpenSessions.{T-one, few, left_is, member-link, ones_sum, open_ones, room-link, weights, word-link}
+use Rattle.filling.proofs.OpenSessions.{T-one, few, left_is, member_link, ones_sum, open_ones, room_link, weights, word_link}
 use Rattle.filling.proofs.RoundOfFigure1.{Turn, open_after}
 
 -- how many of a link's sessions are chosen, one session's part
@@ -77,8 +77,8 @@ module _ (d : Declared) (z : Fill) (run : Running d z) (l : Given) (small_word :
   next_small : SmallDenominator w N' (fixed_in opens')
   next_small = small_step w (few d) z.den x fixed (weights d) run.filling b ch N' x' (fixed_in opens') turn.is_round run.small
 
-  pub den-after : z.den * l.count ≤ 118098
-  den-after = small_32 w (few d) N' (fixed_in opens') next_small
+  pub den_after : z.den * l.count ≤ 118098
+  den_after = small_32 w (few d) N' (fixed_in opens') next_small
 
   opens_less : opens' < 2 ^ 32
   opens_less = omega (arith, and_le_l z.opens ((2 ^ 32 - 1) - l.chosen), run.word)
@@ -117,8 +117,8 @@ module _ (d : Declared) (z : Fill) (run : Running d z) (l : Given) (small_word :
     left_next : (e : ℕ) → e < 64 → 0 < get_or z.links.at e 0 → get_or links'.room e 0 ≡ left_at w N' x' e
     unfolding net problem_of
     left_next e h p =
-        let q : 0 < word_of z.links z.opens e = rw (word-link d z run e h) p in
-        let f = left_is d z run e (omega arith) q ∙ room-link d z run e h in
+        let q : 0 < word_of z.links z.opens e = rw (word_link d z run e h) p in
+        let f = left_is d z run e (omega arith) q ∙ room_link d z run e h in
         omega (
           arith,
           links-are.room e h p,
@@ -192,7 +192,7 @@ module _ (d : Declared) (z : Fill) (run : Running d z) (l : Given) (small_word :
               k.2,
               mul-le-mul_right {m = 1} {n = k.0} (get_or links'.room e 0) k.1,
               ap (λ (v : ℕ). N' * v) (cap_link (problem_of d) e h),
-              mul-le-mul den-after (run.ranges.capacity e h),
+              mul-le-mul den_after (run.ranges.capacity e h),
             )
 
     -- at a link where nobody was open none is chosen
@@ -238,7 +238,7 @@ module _ (d : Declared) (z : Fill) (run : Running d z) (l : Given) (small_word :
               ),
             )
         go (inr one) = (
-          (member-link d z run e h u low (ap (has u) (word-link d z run e h) ∙ one.1)).0,
+          (member_link d z run e h u low (ap (has u) (word_link d z run e h) ∙ one.1)).0,
           omega (
             arith,
             at_most w z.den x fixed (weights d) run.filling b ch N' x' (fixed_in opens') turn.is_round t k,

@@ -15,7 +15,7 @@ use Rattle.fairness.specs.Figure1.{left_at, net}
 use Rattle.fairness.specs.MaxMin.{Active, used}
 use Rattle.fairness.specs.Sum.{part}
 use Rattle.fairness.proofs.Denominators.{small_32}
-use Rattle.fairness.proofs.Figure1IsFair.{filling_begins, filling-ends-fair, load_zero}
+use Rattle.fairness.proofs.Figure1IsFair.{filling_begins, filling_ends_fair, load_zero}
 use Rattle.fairness.proofs.NetOfProblem.{cap_link, load_link, on_link}
 use Rattle.fairness.proofs.Products.{one_largest}
 use Rattle.declarations.specs.declared.Declared.{Declared}
@@ -139,12 +139,12 @@ module _ (d : Declared) (z : Fill) (run : Running d z) where
           run.last e h (nobody_open q e h) s b.0
           (subst T (sym (on_link (problem_of d) e s h)) (and_join ((problem_of d).active s) _ b.1 o))
 
-  pub end-filled : z.opens ≡ 0 → Filled d (record { den = z.den; rate = z.rate; room = z.links.room; last = z.links.last })
+  pub end_filled : z.opens ≡ 0 → Filled d (record { den = z.den; rate = z.rate; room = z.links.room; last = z.links.last })
   unfolding problem_of
-  end-filled q =
+  end_filled q =
       record {
         fair =
-            filling-ends-fair (problem_of d) z.den x (fixed_in z.opens) run.filling
+            filling_ends_fair (problem_of d) z.den x (fixed_in z.opens) run.filling
             (λ s h. let e : has s z.opens ≡ 0 = ap (has s) q ∙ has_zero s in rw e tt);
         small = small_32 (net (problem_of d)) (few d) z.den (fixed_in z.opens) run.small;
         full = full;

@@ -28,7 +28,7 @@ use Rattle.filling.specs.OneRound.{Running}
 use Rattle.filling.specs.SmallestShare.{GivenAmong, SmallestAmong, below, bit_of, count_of, limits_of, room_of, word_of}
 use Rattle.filling.specs.State.{Fill}
 use Rattle.filling.specs.declared.Smallest.{Smallest}
-use Rattle.filling.proofs.OpenSessions.{T-one, T-open, count_is, each, is-member-link, member-link, open-T, word-open, word-shut}
+use Rattle.filling.proofs.OpenSessions.{T-one, T-open, count_is, each, is_member_link, member_link, open-T, word_open, word_shut}
 
 -- a session that meets a set of links crosses one of them, and the other way round
 meets_at : (path : List ℕ) (links s : ℕ) → links < 2 ^ 64 → Meets path links s → (e : ℕ) × (e < 64) × (has e links ≡ 1) × T (crosses_of path e s)
@@ -70,12 +70,12 @@ module _ (d : Declared) (z : Fill) (run : Running d z) where
   own_open s p = go (has_or_not s z.opens)
     where
       go : (has s z.opens ≡ 0) ⊎ (has s z.opens ≡ 1) → has s z.opens ≡ 1
-      go (inl q) = absurd (omega (arith, word-shut d z run s q))
+      go (inl q) = absurd (omega (arith, word_shut d z run s q))
       go (inr q) = q
 
-  pub on-crosses : (e : ℕ) → e < 64 → (s : ℕ) → T (w.on e s) → T (crosses_of d.path e s)
+  pub on_crosses : (e : ℕ) → e < 64 → (s : ℕ) → T (w.on e s) → T (crosses_of d.path e s)
   unfolding problem_of
-  on-crosses e h s o = (and_split (eqb (has s d.sessions) 1) (crosses_of d.path e s) (subst T (on_link (problem_of d) e s h) o)).1
+  on_crosses e h s o = (and_split (eqb (has s d.sessions) 1) (crosses_of d.path e s) (subst T (on_link (problem_of d) e s h) o)).1
 
   crosses_on : (e : ℕ) → e < 64 → (s : ℕ) → s < 32 → has s z.opens ≡ 1 → T (crosses_of d.path e s) → T (w.on e s)
   unfolding problem_of
@@ -106,7 +106,7 @@ module _ (d : Declared) (z : Fill) (run : Running d z) where
     why_own : (s : ℕ) → s < 32 → has s f.own ≡ 1 → Why s
     why_own s h q =
         let o = ok (64 + s) (omega arith) (bits_own s ∙ q) in
-        (64 + s, omega arith, ap (has s) (word-open d z run s (own_open s o.0)) ∙ has_two_same s, o.1)
+        (64 + s, omega arith, ap (has s) (word_open d z run s (own_open s o.0)) ∙ has_two_same s, o.1)
 
     why_link : (s : ℕ) → s < 32 → has s r ≡ 1 → Why s
     why_link s h q =
@@ -114,7 +114,7 @@ module _ (d : Declared) (z : Fill) (run : Running d z) where
         let a = meets_at d.path f.links s links-lt m.1 in
         let o = ok a.0 (omega (arith, a.1)) (bits_link a.0 a.1 ∙ a.2) in
         let on = crosses_on a.0 a.1 s h m.0 a.3 in
-        (a.0, omega (arith, a.1), is-member-link d z run a.0 a.1 s h on (T-open (has s z.opens) m.0), o.1)
+        (a.0, omega (arith, a.1), is_member_link d z run a.0 a.1 s h on (T-open (has s z.opens) m.0), o.1)
 
     gets : (s : ℕ) → s < 32 → (e : ℕ) → e < 96 → has s (W e) ≡ 1 → R e * f.count ≡ f.room * ones (W e) → has s (bit_or f.own r) ≡ 1
     gets s h e k q v =
@@ -123,13 +123,13 @@ module _ (d : Declared) (z : Fill) (run : Running d z) where
       where
         link : (e : ℕ) → e < 64 → has s (W e) ≡ 1 → bit_of f.own f.links e ≡ 1 → has s (bit_or f.own r) ≡ 1
         link e k q b =
-            let m = member-link d z run e k s h q in
+            let m = member_link d z run e k s h q in
             omega (
               arith,
               has_or s f.own r,
               has_lt s f.own,
               found.every s h (open-T (has s z.opens) (has_lt s z.opens) m.1)
-                  (at_meets d.path f.links s e (sym (bits_link e k) ∙ b) (on-crosses e k s m.0)),
+                  (at_meets d.path f.links s e (sym (bits_link e k) ∙ b) (on_crosses e k s m.0)),
             )
 
         own : (j : ℕ) → j < 32 → has s (W (64 + j)) ≡ 1 → bit_of f.own f.links (64 + j) ≡ 1 → has s (bit_or f.own r) ≡ 1
@@ -137,7 +137,7 @@ module _ (d : Declared) (z : Fill) (run : Running d z) where
           where
             same : Dec (j ≡ s) → has s (bit_or f.own r) ≡ 1
             same (yes x) = omega (arith, has_or s f.own r, has_lt s r, ap (λ (v : ℕ). has v f.own) x, bits_own j)
-            same (no x) = absurd (omega (arith, q, ap (has s) (word-open d z run j (own_open j (has_pos s (W (64 + j)) q))), has_two_other j s x))
+            same (no x) = absurd (omega (arith, q, ap (has s) (word_open d z run j (own_open j (has_pos s (W (64 + j)) q))), has_two_other j s x))
 
         go : (e : ℕ) → e < 96 → has s (W e) ≡ 1 → bit_of f.own f.links e ≡ 1 → has s (bit_or f.own r) ≡ 1
         go = each (λ e. has s (W e) ≡ 1 → bit_of f.own f.links e ≡ 1 → has s (bit_or f.own r) ≡ 1) link own

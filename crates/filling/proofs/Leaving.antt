@@ -22,7 +22,7 @@ use Rattle.filling.specs.SmallestShare.{Busy}
 use Rattle.filling.specs.State.{Links}
 use Rattle.filling.proofs.Crossings.{some_hop}
 use Rattle.filling.proofs.LeavingALink.{cut_none, leaves_still}
-use Rattle.filling.proofs.Remembering.{remembers-more, remembers_none, remembers-then}
+use Rattle.filling.proofs.Remembering.{remembers_more, remembers_none, remembers_then}
 
 -- THE PATH OF ONE SESSION ---------------------------------------------------------------------------------------------
 
@@ -54,7 +54,7 @@ module _ (path : List ℕ) (s share h : ℕ) (k m : Links) (e : ℕ) (e-is : e �
         room = λ j l. omega (arith, a.room j l, b.room j l);
         count = λ j l. omega (arith, a.count j l, b.count j l);
         last =
-            remembers-then (◌≡◌ s) k m r (λ j l t. omega (arith, ap (has t) (a.at j l), none_comes (some_hop path s h j) s t (get_or k.at j 0)))
+            remembers_then (◌≡◌ s) k m r (λ j l t. omega (arith, ap (has t) (a.at j l), none_comes (some_hop path s h j) s t (get_or k.at j 0)))
             a.last b.last;
         busy = λ o. b.busy (a.busy o);
         long = λ o. b.long (a.long o);
@@ -65,8 +65,8 @@ module _ (path : List ℕ) (s share h : ℕ) (k m : Links) (e : ℕ) (e-is : e �
   still_open true w v q o = absurd (omega (arith, ap (has s) q, has_cut_same s w))
   still_open false w v q o = q
 
-  pub leavable-next : h < 8 → Leavable (λ j. crosses_of path j s) s share k → Leavable (eqb e) s share m
-  leavable-next l f j low t o =
+  pub leavable_next : h < 8 → Leavable (λ j. crosses_of path j s) s share k → Leavable (eqb e) s share m
+  leavable_next l f j low t o =
       let x : e ≡ j = eqb→eq e j t in
       let same : get_or m.at j 0 ≡ get_or k.at j 0 = still_open (some_hop path s h j) (get_or k.at j 0) (get_or m.at j 0) (a.at j low) o in
       let c : T (crosses_of path j s) =
@@ -121,8 +121,8 @@ no_larger false s w = omega arith
 
 module _ (path : List ℕ) (chosen left share : ℕ) (k now : Links) (d : Departed path chosen left share k now) (s : ℕ) (there : has s left ≡ 1) where
   -- it has a share left at each link of its path
-  pub leavable-turn : Enough share k → Leavable (λ e. crosses_of path e s) s share now
-  leavable-turn f e h c o =
+  pub leavable_turn : Enough share k → Leavable (λ e. crosses_of path e s) s share now
+  leavable_turn f e h c o =
       let p = ones_pos s (get_or now.at e 0) o in
       let q : 0 < get_or k.at e 0 = has_pos s (get_or k.at e 0) (sym (d.stays e h s (inl there)) ∙ o) in (
         omega (arith, d.room e h, f.room e h q, mul-le-mul_left {m = 1} {n = ones (get_or now.at e 0)} share p),
@@ -130,9 +130,9 @@ module _ (path : List ℕ) (chosen left share : ℕ) (k now : Links) (d : Depart
       )
 
   -- one session more
-  pub departed-turn : (v : ℕ) (r : Links) → has s chosen ≡ 1 → v ≡ cut s left → Leaves (λ e. crosses_of path e s) s share now r
+  pub departed_turn : (v : ℕ) (r : Links) → has s chosen ≡ 1 → v ≡ cut s left → Leaves (λ e. crosses_of path e s) s share now r
       → Departed path chosen v share k r
-  departed-turn v r mine q b =
+  departed_turn v r mine q b =
       record {
         stays = λ e h t o. ap (has t) (b.at e h) ∙ stays e h t o (ℕ_discrete s t);
         gone = λ e h t l p z c. ap (has t) (b.at e h) ∙ gone e h t l p z c (ℕ_discrete s t);
@@ -142,8 +142,8 @@ module _ (path : List ℕ) (chosen left share : ℕ) (k now : Links) (d : Depart
         room = λ e h. omega (arith, d.room e h, b.room e h);
         count = λ e h. omega (arith, d.count e h, b.count e h);
         last =
-            remembers-then (λ t. has t chosen ≡ 1) k now r d.fewer d.last
-            (remembers-more (◌≡◌ s) (λ t. has t chosen ≡ 1) (λ t e. subst (λ (y : ℕ). has y chosen ≡ 1) e mine) now r b.last);
+            remembers_then (λ t. has t chosen ≡ 1) k now r d.fewer d.last
+            (remembers_more (◌≡◌ s) (λ t. has t chosen ≡ 1) (λ t e. subst (λ (y : ℕ). has y chosen ≡ 1) e mine) now r b.last);
         busy = λ o. b.busy (d.busy o);
         long = λ o. b.long (d.long o);
       }

@@ -137,8 +137,8 @@ module _ (e s share : ℕ) (k : Links) (w x n busy : ℕ) (last : List ℕ) (who
   lasts_low f j h (no d) (inl o) = omega (arith, last_other o.2 j d, f j h)
   lasts_low f j h d (inr o) = omega (arith, ap (λ (l : List ℕ). get_or l j 0) o.2, f j h)
 
-  pub leaves-one : Leaves (eqb e) s share k r
-  leaves-one =
+  pub leaves_one : Leaves (eqb e) s share k r
+  leaves_one =
       record {
         at = λ j h. at j (ℕ_discrete e j);
         room = λ j h. room j (ℕ_discrete e j);

@@ -18,9 +18,9 @@ use Rattle.filling.specs.OneRound.{Enough, Grown, LinksAfter, Running, Without}
 use Rattle.filling.specs.SmallestShare.{GivenAmong, SharesFit, limits_of, room_of, word_of}
 use Rattle.filling.specs.State.{Fill, Links, links_of}
 use Rattle.filling.specs.declared.Given.{Given}
-use Rattle.filling.proofs.Chosen.{on-crosses}
-use Rattle.filling.proofs.OpenSessions.{member-link, ones_sum, word-link}
-use Rattle.filling.proofs.RoundOfFigure1.{room-enough}
+use Rattle.filling.proofs.Chosen.{on_crosses}
+use Rattle.filling.proofs.OpenSessions.{member_link, ones_sum, word_link}
+use Rattle.filling.proofs.RoundOfFigure1.{room_enough}
 
 -- the members of a word are those that stay and those that are chosen
 parts : (w v ch : ℕ) → w < 2 ^ 32 → v ≤ w → ((s : ℕ) → s < 32 → has s v ≡ min (has s w) (1 - has s ch)) → ones w ≡ ones v + ones (bit_and w ch)
@@ -64,7 +64,7 @@ module _ (d : Declared) (z : Fill) (run : Running d z) (l : Given)
               lasts = run.whole.lasts;
               low = run.whole.low;
             };
-        room = λ e h p. omega (arith, grown_there e h p, room-enough d z run l best e h p);
+        room = λ e h p. omega (arith, grown_there e h p, room_enough d z run l best e h p);
         count = run.links.count;
       }
 
@@ -77,8 +77,8 @@ module _ (d : Declared) (z : Fill) (run : Running d z) (l : Given)
         go (inl n) y = omega (arith, n, without.stays e h s n, has_lt s (get_or z.links.at e 0))
         go (inr o) (inl y) = omega (arith, o, y, without.fewer e h s)
         go (inr o) (inr y) =
-            let on = (member-link d z run e h s i (ap (has s) (word-link d z run e h) ∙ y)).0 in
-            omega (arith, o, without.gone e h s i o (on-crosses d z run e h s on))
+            let on = (member_link d z run e h s i (ap (has s) (word_link d z run e h) ∙ y)).0 in
+            omega (arith, o, without.gone e h s i o (on_crosses d z run e h s on))
 
     room : (e : ℕ) → e < 64 → 0 < get_or z.links.at e 0
         → get_or r.room e 0 + l.room * ones (bit_and (get_or z.links.at e 0) l.chosen) ≡ get_or z.links.room e 0 * l.count
@@ -105,8 +105,8 @@ module _ (d : Declared) (z : Fill) (run : Running d z) (l : Given)
         go (inl n) = inl (same ∙ grown.other e h n)
         go (inr o) = inr (same ∙ grown.at e h o)
 
-    pub links-after : LinksAfter z.links l r
-    links-after =
+    pub links_after : LinksAfter z.links l r
+    links_after =
         record {
           at = at;
           small = without.small;

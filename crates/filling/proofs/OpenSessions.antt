@@ -109,17 +109,17 @@ module _ (d : Declared) (z : Fill) (run : Running d z) where
   word_own : (j : ℕ) → W (64 + j) ≡ has j z.opens * 2 ^ j
   word_own j = rw (le-ltb (64 + j) 64 (omega arith), add-sub_cancel_left 64 j)
 
-  pub room-link : (e : ℕ) → e < 64 → R e ≡ get_or z.links.room e 0
-  room-link e h = rw (lt-ltb e 64 h)
+  pub room_link : (e : ℕ) → e < 64 → R e ≡ get_or z.links.room e 0
+  room_link e h = rw (lt-ltb e 64 h)
 
-  pub word-link : (e : ℕ) → e < 64 → W e ≡ get_or z.links.at e 0
-  word-link e h = rw (lt-ltb e 64 h)
+  pub word_link : (e : ℕ) → e < 64 → W e ≡ get_or z.links.at e 0
+  word_link e h = rw (lt-ltb e 64 h)
 
-  pub word-open : (j : ℕ) → has j z.opens ≡ 1 → W (64 + j) ≡ 2 ^ j
-  word-open j q = word_own j ∙ rw q (omega arith)
+  pub word_open : (j : ℕ) → has j z.opens ≡ 1 → W (64 + j) ≡ 2 ^ j
+  word_open j q = word_own j ∙ rw q (omega arith)
 
-  pub word-shut : (j : ℕ) → has j z.opens ≡ 0 → W (64 + j) ≡ 0
-  word-shut j q = word_own j ∙ rw q (omega arith)
+  pub word_shut : (j : ℕ) → has j z.opens ≡ 0 → W (64 + j) ≡ 0
+  word_shut j q = word_own j ∙ rw q (omega arith)
 
   -- the count of ones is the number of open sessions
   at_part : (on : Bool) (h a : ℕ) → h < 2 → (T on → a ≡ h) × (T (not on) → a ≡ 0) → part on (part (not (eqb h 0)) 1) ≡ a
@@ -132,14 +132,14 @@ module _ (d : Declared) (z : Fill) (run : Running d z) where
       sum_eq 32 (λ s. part (w.on e s) (part (not (fixed s)) 1)) (λ s. has s (get_or z.links.at e 0))
       (λ s l. at_part (w.on e s) (has s z.opens) (has s (get_or z.links.at e 0)) (has_lt s z.opens) (run.at e h s l))
       ∙ sym (ones_sum 32 (get_or z.links.at e 0) (omega (arith, run.links.at e h)))
-      ∙ sym (ap ones (word-link e h))
+      ∙ sym (ap ones (word_link e h))
 
   own_ones : (j : ℕ) → has j z.opens ≡ ones (W (64 + j))
   own_ones j = go (has_or_not j z.opens)
     where
       go : (has j z.opens ≡ 0) ⊎ (has j z.opens ≡ 1) → has j z.opens ≡ ones (W (64 + j))
-      go (inl q) = q ∙ sym (ap ones (word-shut j q) ∙ ones_zero)
-      go (inr q) = q ∙ sym (ap ones (word-open j q) ∙ ones_two j)
+      go (inl q) = q ∙ sym (ap ones (word_shut j q) ∙ ones_zero)
+      go (inr q) = q ∙ sym (ap ones (word_open j q) ∙ ones_two j)
 
   open_limit : (j : ℕ) → j < 32 → open_at w fixed (64 + j) ≡ ones (W (64 + j))
   unfolding problem_of
@@ -164,7 +164,7 @@ module _ (d : Declared) (z : Fill) (run : Running d z) where
   left_link : (e : ℕ) → e < 64 → 0 < W e → left_at w z.den x e ≡ R e
   unfolding left_at problem_of
   left_link e h p =
-      rw (room-link e h, cap_link (problem_of d) e h) (omega (arith, run.room e h (rw (word-link e h) at p)))
+      rw (room_link e h, cap_link (problem_of d) e h) (omega (arith, run.room e h (rw (word_link e h) at p)))
 
   own_cap : (j : ℕ) → j < 32 → has j z.opens ≡ 1 → w.capacity (64 + j) ≡ limits_of d.access d.maximum j
   unfolding problem_of
@@ -177,7 +177,7 @@ module _ (d : Declared) (z : Fill) (run : Running d z) where
   left_own j h p = go (has_or_not j z.opens)
     where
       go : (has j z.opens ≡ 0) ⊎ (has j z.opens ≡ 1) → left_at w z.den x (64 + j) ≡ R (64 + j)
-      go (inl q) = absurd (omega (arith, word-shut j q))
+      go (inl q) = absurd (omega (arith, word_shut j q))
       go (inr q) =
           rw (room_own j, own_cap j h q, load_own (problem_of d) x j h)
           (omega (arith, run.filling.none_yet j h (T-open (has j z.opens) q)))
@@ -186,11 +186,11 @@ module _ (d : Declared) (z : Fill) (run : Running d z) where
   left_is = each (λ e. 0 < W e → left_at w z.den x e ≡ R e) left_link left_own
 
   -- a member of the word is a session that crosses the link and is open
-  pub member-link : (e : ℕ) → e < 64 → (s : ℕ) → s < 32 → has s (W e) ≡ 1 → T (w.on e s) × T (not (fixed s))
-  member-link e h s l q = go (split (w.on e s))
+  pub member_link : (e : ℕ) → e < 64 → (s : ℕ) → s < 32 → has s (W e) ≡ 1 → T (w.on e s) × T (not (fixed s))
+  member_link e h s l q = go (split (w.on e s))
     where
       q' : has s (get_or z.links.at e 0) ≡ 1
-      q' = ap (has s) (sym (word-link e h)) ∙ q
+      q' = ap (has s) (sym (word_link e h)) ∙ q
 
       go : T (w.on e s) ⊎ T (not (w.on e s)) → T (w.on e s) × T (not (fixed s))
       go (inl o) = (o, T-open (has s z.opens) (sym ((run.at e h s l).0 o) ∙ q'))
@@ -205,34 +205,34 @@ module _ (d : Declared) (z : Fill) (run : Running d z) where
         subst T (sym (on_own (problem_of d) j s)) (rw (eq-eqb (64 + j) (64 + s) (omega arith)) tt),
         T-open (has s z.opens) (ap (λ (v : ℕ). has v z.opens) (sym e) ∙ t),
       )
-      found t (no n) = absurd (omega (arith, q, ap (has s) (word-open j t), has_two_other j s n))
+      found t (no n) = absurd (omega (arith, q, ap (has s) (word_open j t), has_two_other j s n))
 
       go : (has j z.opens ≡ 0) ⊎ (has j z.opens ≡ 1) → T (w.on (64 + j) s) × T (not (fixed s))
-      go (inl t) = absurd (omega (arith, q, ap (has s) (word-shut j t), has_zero s))
+      go (inl t) = absurd (omega (arith, q, ap (has s) (word_shut j t), has_zero s))
       go (inr t) = found t (ℕ_discrete j s)
 
   pub member : (e : ℕ) → e < 96 → (s : ℕ) → s < 32 → has s (W e) ≡ 1 → T (w.on e s) × T (not (fixed s))
-  member = each (λ e. (s : ℕ) → s < 32 → has s (W e) ≡ 1 → T (w.on e s) × T (not (fixed s))) member-link member_own
+  member = each (λ e. (s : ℕ) → s < 32 → has s (W e) ≡ 1 → T (w.on e s) × T (not (fixed s))) member_link member_own
 
-  pub is-member-link : (e : ℕ) → e < 64 → (s : ℕ) → s < 32 → T (w.on e s) → T (not (fixed s)) → has s (W e) ≡ 1
-  is-member-link e h s l o t = ap (has s) (word-link e h) ∙ (run.at e h s l).0 o ∙ open-T (has s z.opens) (has_lt s z.opens) t
+  pub is_member_link : (e : ℕ) → e < 64 → (s : ℕ) → s < 32 → T (w.on e s) → T (not (fixed s)) → has s (W e) ≡ 1
+  is_member_link e h s l o t = ap (has s) (word_link e h) ∙ (run.at e h s l).0 o ∙ open-T (has s z.opens) (has_lt s z.opens) t
 
   is_member_own : (j : ℕ) → j < 32 → (s : ℕ) → s < 32 → T (w.on (64 + j) s) → T (not (fixed s)) → has s (W (64 + j)) ≡ 1
   unfolding problem_of
   is_member_own j h s l o t =
       let e : j ≡ s = omega (arith, eqb→eq (64 + j) (64 + s) (subst T (on_own (problem_of d) j s) o)) in
       let q : has j z.opens ≡ 1 = ap (λ (v : ℕ). has v z.opens) e ∙ open-T (has s z.opens) (has_lt s z.opens) t in
-      ap (has s) (word-open j q) ∙ ap (λ (v : ℕ). has s (2 ^ v)) e ∙ has_two_same s
+      ap (has s) (word_open j q) ∙ ap (λ (v : ℕ). has s (2 ^ v)) e ∙ has_two_same s
 
   pub is_member : (e : ℕ) → e < 96 → (s : ℕ) → s < 32 → T (w.on e s) → T (not (fixed s)) → has s (W e) ≡ 1
-  is_member = each (λ e. (s : ℕ) → s < 32 → T (w.on e s) → T (not (fixed s)) → has s (W e) ≡ 1) is-member-link is_member_own
+  is_member = each (λ e. (s : ℕ) → s < 32 → T (w.on e s) → T (not (fixed s)) → has s (W e) ≡ 1) is_member_link is_member_own
 
   pub word_lt : (e : ℕ) → e < 96 → W e < 2 ^ 32
-  word_lt = each (λ e. W e < 2 ^ 32) (λ e h. rw (word-link e h) (omega (arith, run.links.at e h))) own
+  word_lt = each (λ e. W e < 2 ^ 32) (λ e h. rw (word_link e h) (omega (arith, run.links.at e h))) own
     where
       own : (j : ℕ) → j < 32 → W (64 + j) < 2 ^ 32
       own j h = go (has_or_not j z.opens)
         where
           go : (has j z.opens ≡ 0) ⊎ (has j z.opens ≡ 1) → W (64 + j) < 2 ^ 32
-          go (inl q) = rw (word-shut j q) (omega arith)
-          go (inr q) = rw (word-open j q) (pow-lt h)
+          go (inl q) = rw (word_shut j q) (omega arith)
+          go (inr q) = rw (word_open j q) (pow-lt h)

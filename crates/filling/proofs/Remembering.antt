@@ -19,8 +19,8 @@ module _ (These Those : ℕ → Type 0) (f : (t : ℕ) → These t → Those t) 
   more w l v m (inl q) = inl q
   more w l v m (inr q) = inr (f m q.0, q.1)
 
-  pub remembers-more : (k r : Links) → Remembers These k r → Remembers Those k r
-  remembers-more k r a e h = more _ _ _ _ (a e h)
+  pub remembers_more : (k r : Links) → Remembers These k r → Remembers Those k r
+  remembers_more k r a e h = more _ _ _ _ (a e h)
 
 module _ (These : ℕ → Type 0) where
   then : (w l v m u n : ℕ) → ((t : ℕ) → has t v ≤ has t w) → Remembered These w l v m → Remembered These v m u n → Remembered These w l u n
@@ -28,6 +28,6 @@ module _ (These : ℕ → Type 0) where
   then w l v m u n fewer (inr x) (inl y) = inr (subst (λ (t : ℕ). These t × (has t w ≡ 1)) (sym y.0) x)
   then w l v m u n fewer x (inr y) = inr (y.0, omega (arith, y.1, fewer n, has_lt n w))
 
-  pub remembers-then : (k m r : Links) → ((e : ℕ) → e < 64 → (t : ℕ) → has t (get_or m.at e 0) ≤ has t (get_or k.at e 0))
+  pub remembers_then : (k m r : Links) → ((e : ℕ) → e < 64 → (t : ℕ) → has t (get_or m.at e 0) ≤ has t (get_or k.at e 0))
       → Remembers These k m → Remembers These m r → Remembers These k r
-  remembers-then k m r fewer a b e h = then _ _ _ _ _ _ (fewer e h) (a e h) (b e h)
+  remembers_then k m r fewer a b e h = then _ _ _ _ _ _ (fewer e h) (a e h) (b e h)

@@ -31,7 +31,7 @@ use Rattle.filling.specs.OneRound.{RatesAfter, Running, fixed_in, rate_after}
 use Rattle.filling.specs.SmallestShare.{GivenAmong, limits_of, parts_limit, room_of, word_of}
 use Rattle.filling.specs.State.{Fill}
 use Rattle.filling.specs.declared.Given.{Given}
-use Rattle.filling.proofs.OpenSessions.{T-not_one, T-one, T-open, few, is_member, left_is, member, open-T, open_is, room-link, word-link, word_lt, word-open}
+use Rattle.filling.proofs.OpenSessions.{T-not_one, T-one, T-open, few, is_member, left_is, member, open-T, open_is, room_link, word_link, word_lt, word_open}
 
 -- the sessions that are open after a round
 abbrev pub open_after : ℕ → Given → ℕ
@@ -65,22 +65,22 @@ module _ (d : Declared) (z : Fill) (run : Running d z) where
 
   -- WHAT THE CALLS OF A ROUND ASK -------------------------------------------------------------------------------------
 
-  pub den-before : z.den ≤ 118098
-  den-before = small_32 w (few d) z.den fixed run.small
+  pub den_before : z.den ≤ 118098
+  den_before = small_32 w (few d) z.den fixed run.small
 
   own_fits : (s : ℕ) → s < 32 → x s ≤ z.den * part (eqb (has s d.sessions) 1) (limits_of d.access d.maximum s)
   unfolding net problem_of
   own_fits s h =
       omega (arith, load_own (problem_of d) x s h, run.filling.fits (64 + s) (omega arith), ap (λ (v : ℕ). z.den * v) (cap_own (problem_of d) s))
 
-  pub rate-before : (s : ℕ) → s < 32 → x s ≤ parts_limit
-  rate-before s h =
+  pub rate_before : (s : ℕ) → s < 32 → x s ≤ parts_limit
+  rate_before s h =
       omega (
         arith,
         own_fits s h,
         mul-le-mul_left z.den (part_le (eqb (has s d.sessions) 1) (limits_of d.access d.maximum s)),
         mul-le-mul_left z.den (own_limit_le (get_or d.access s 0) (get_or d.maximum s 0)),
-        mul-le-mul den-before (run.ranges.access s h),
+        mul-le-mul den_before (run.ranges.access s h),
       )
 
   -- a session that is not declared has no rate
@@ -90,8 +90,8 @@ module _ (d : Declared) (z : Fill) (run : Running d z) where
       omega (arith, own_fits s h, ap (λ (t : Bool). z.den * part t (limits_of d.access d.maximum s)) n)
 
   module _ (l : Given) (best : GivenAmong R W l) where
-    pub room-enough : (e : ℕ) → e < 64 → 0 < get_or z.links.at e 0 → l.room * ones (get_or z.links.at e 0) ≤ get_or z.links.room e 0 * l.count
-    room-enough e h p = rw (word-link d z run e h, room-link d z run e h) at (best.low e (omega arith))
+    pub room_enough : (e : ℕ) → e < 64 → 0 < get_or z.links.at e 0 → l.room * ones (get_or z.links.at e 0) ≤ get_or z.links.room e 0 * l.count
+    room_enough e h p = rw (word_link d z run e h, room_link d z run e h) at (best.low e (omega arith))
 
     chosen_open : (s : ℕ) → s < 32 → has s l.chosen ≡ 1 → has s z.opens ≡ 1
     chosen_open s h q =
@@ -149,7 +149,7 @@ module _ (d : Declared) (z : Fill) (run : Running d z) where
               (omega (
                 arith,
                 n.0,
-                rw (n.0, n.1, word-open d z run s s_has, ones_two s) at (best.low (64 + s) (omega (arith, low_lt 32 z.opens some_open opens_lt))),
+                rw (n.0, n.1, word_open d z run s s_has, ones_two s) at (best.low (64 + s) (omega (arith, low_lt 32 z.opens some_open opens_lt))),
               ))
 
       abbrev b : ℕ

@@ -191,23 +191,23 @@ best_turn S R K l b n hn own link one = empty (eqb (K n) 0) refl
 
 -- the same as the code finds it, by a numerator and a denominator
 module _ (l : Smallest) (room count own link num den : ℕ) (n : num ≡ room) (k : den ≡ count) (some : count ≡ 0 → ⊥) where
-  pub smaller-less : num * l.count < l.room * den → record { room = num; count = den; own = own; links = link } ≡ smaller_of l room count own link
+  pub smaller_less : num * l.count < l.room * den → record { room = num; count = den; own = own; links = link } ≡ smaller_of l room count own link
   unfolding smaller_of
-  smaller-less t =
+  smaller_less t =
       let u : room * l.count < l.room * count = rw (n, k) at t in
       rw (n, k, ne_eqb count 0 some, lt-ltb (room * l.count) (l.room * count) u) refl
 
-  pub smaller-same : l.room * den ≤ num * l.count → num * l.count ≡ l.room * den
+  pub smaller_same : l.room * den ≤ num * l.count → num * l.count ≡ l.room * den
       → both_of l own link ≡ smaller_of l room count own link
   unfolding smaller_of
-  smaller-same t q =
+  smaller_same t q =
       let u : l.room * count ≤ room * l.count = rw (n, k) at t in
       let v : room * l.count ≡ l.room * count = rw (n, k) at q in
       rw (ne_eqb count 0 some, le-ltb (room * l.count) (l.room * count) u, eq-eqb (room * l.count) (l.room * count) v) refl
 
-  pub smaller-more : l.room * den ≤ num * l.count → (num * l.count ≡ l.room * den → ⊥) → l ≡ smaller_of l room count own link
+  pub smaller_more : l.room * den ≤ num * l.count → (num * l.count ≡ l.room * den → ⊥) → l ≡ smaller_of l room count own link
   unfolding smaller_of
-  smaller-more t q =
+  smaller_more t q =
       let u : l.room * count ≤ room * l.count = rw (n, k) at t in
       let v : room * l.count ≡ l.room * count → ⊥ = rw (n, k) at q in
       rw (ne_eqb count 0 some, le-ltb (room * l.count) (l.room * count) u, ne_eqb (room * l.count) (l.room * count) v) refl

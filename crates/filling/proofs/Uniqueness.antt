@@ -8,7 +8,7 @@ use native.Mathlib.Omega.{arith}
 use lib.Dec.{T}
 use lib.ListN.{get_or}
 use Rattle.fairness.specs.MaxMin.{Active, used}
-use Rattle.fairness.proofs.SameRates.{full-same}
+use Rattle.fairness.proofs.SameRates.{full_same}
 use Rattle.fairness.proofs.Uniqueness.{max_min_unique}
 use Rattle.declarations.specs.declared.Declared.{Declared}
 use Rattle.filling.specs.Lines.{Filled, problem_of}
@@ -23,7 +23,7 @@ full_same_lines : (d : Declared) (q r : Fixed) → Filled d q → Filled d r →
     → used (problem_of d) (λ s. get_or q.rate s 0) e ≡ q.den * get_or d.capacity e 0 → used (problem_of d) (λ s. get_or r.rate s 0) e ≡ r.den * get_or d.capacity e 0
 unfolding problem_of
 full_same_lines d q r f g e =
-    full-same (problem_of d) q.den (λ s. get_or q.rate s 0) r.den (λ s. get_or r.rate s 0) f.fair.feasible.pos (rates_unique d q r f g) e
+    full_same (problem_of d) q.den (λ s. get_or q.rate s 0) r.den (λ s. get_or r.rate s 0) f.fair.feasible.pos (rates_unique d q r f g) e
 
 -- the same links are full
 pub full_unique : (d : Declared) (q r : Fixed) → Filled d q → Filled d r → (e : ℕ) → e < 64 → get_or q.room e 0 ≡ 0 → get_or r.room e 0 ≡ 0

@@ -19,12 +19,12 @@ pub record Visited (f : ℕ → ℕ) (old : List ℕ) (left : ℕ) (now : List �
 
 module _ (f : ℕ → ℕ) (old : List ℕ) where
   -- the places that are never visited keep what they have
-  pub visited-none : (left : ℕ) → ((j : ℕ) → j < length old → has j left ≡ 0 → get_or old j 0 ≡ f j) → Visited f old left old
-  visited-none left h = record { long = refl; done = h; rest = λ j q. refl }
+  pub visited_none : (left : ℕ) → ((j : ℕ) → j < length old → has j left ≡ 0 → get_or old j 0 ≡ f j) → Visited f old left old
+  visited_none left h = record { long = refl; done = h; rest = λ j q. refl }
 
-  pub visited-turn : (left i v : ℕ) (now : List ℕ) (more : ℕ) → i < length old → more ≡ f i → v ≡ cut i left → Visited f old left now
+  pub visited_turn : (left i v : ℕ) (now : List ℕ) (more : ℕ) → i < length old → more ≡ f i → v ≡ cut i left → Visited f old left now
       → Visited f old v (set now i more)
-  visited-turn left i v now more hi e q h =
+  visited_turn left i v now more hi e q h =
       record {
         long = length-set now i more ∙ h.long;
         done = written_turn (λ j. j < length old) f left i v now more (omega (arith, h.long)) e q h.done;
@@ -38,5 +38,5 @@ module _ (f : ℕ → ℕ) (old : List ℕ) where
       rest j z (yes w) = absurd (omega (arith, z, ap (λ (y : ℕ). has y v) (sym w), ap (has i) q, has_cut_same i left))
       rest j z (no n) = get_or-set_other now i j more 0 (λ w. n (sym w)) ∙ h.rest j (sym (same j n) ∙ z)
 
-  pub visited-all : (left : ℕ) (now : List ℕ) → left ≡ 0 → Visited f old left now → (j : ℕ) → j < length old → get_or now j 0 ≡ f j
-  visited-all left now z h j k = h.done j k (ap (has j) z ∙ has_zero j)
+  pub visited_all : (left : ℕ) (now : List ℕ) → left ≡ 0 → Visited f old left now → (j : ℕ) → j < length old → get_or now j 0 ≡ f j
+  visited_all left now z h j k = h.done j k (ap (has j) z ∙ has_zero j)

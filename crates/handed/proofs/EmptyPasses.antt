@@ -11,7 +11,7 @@ use Rattle.records.proofs.Somes.{clash}
 use Rattle.ranges.specs.Ranges.{count_fits, link_fits, standing_fits}
 use Rattle.table.specs.Words.{count_of, empty_words, hops_of, place_of, source_of}
 use Rattle.table.proofs.Empty.{empty_count, empty_hops, empty_word}
-use Rattle.table.proofs.EmptyLinks.{empty-R, empty_sum, none_active, none_held, none_in-F}
+use Rattle.table.proofs.EmptyLinks.{empty_r, empty_sum, none_active, none_held, none_in_f}
 use Rattle.handed.specs.Handed.{passes14_of}
 use Rattle.handed.specs.Passes.{Passes}
 use Rattle.handed.proofs.Passing.{means_passes}
@@ -27,7 +27,7 @@ no_packets i h = absurd (omega (arith, empty_count))
 
 fine_empty : (e : ℕ) → is_fine (B (place_of empty_words e)) ≡ true
 unfolding B bound_of ones_in
-fine_empty e = rw (empty_sum e, empty-R e)
+fine_empty e = rw (empty_sum e, empty_r e)
 
 pub empty_is_passing : Passes empty_words
 unfolding count_fits link_fits standing_fits
@@ -45,7 +45,7 @@ empty_is_passing = record {
   down = λ i l d. no_packets i l;
   up = λ i l d. no_packets i l;
   way = λ i l. no_packets i l;
-  apart = λ e s l k t. none_in-F e s;
+  apart = λ e s l k t. none_in_f e s;
   on_path = λ e s l k t. not_held e s t;
   live = λ e s l k t a. not_held e s t;
   within_c = λ e l q. clash (is_past_c total.PastC) refl (ap is_past_c (sym q ∙ empty_sum e));

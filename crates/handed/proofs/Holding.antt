@@ -15,14 +15,14 @@ use Rattle.records.proofs.Alls.{all_at, all_below, all_fails}
 use Rattle.records.proofs.Somes.{implies, not_so}
 use Rattle.sessions.specs.Set.{has, size_of}
 use Rattle.sessions.proofs.Counts.{count_most}
-use Rattle.sessions.proofs.EachMember.{Shown, shown-all}
+use Rattle.sessions.proofs.EachMember.{Shown, shown_all}
 use Rattle.sessions.proofs.Members.{has_zero, is_in}
 use Rattle.sessions.proofs.Operations.{apart_each, word_apart}
 use Rattle.table.specs.Words.{hop_of, hops_of, link_of, place_of}
 use Rattle.table.proofs.Hops.{hop_of_stop}
 use Rattle.table.proofs.InRange.{r_below}
 use Rattle.totals.proofs.FineBounds.{fine_within}
-use Rattle.totals.proofs.Held.{held-is, held_word, nobody_held, none-summed}
+use Rattle.totals.proofs.Held.{held_is, held_word, nobody_held, none_summed}
 use Rattle.handed.specs.Handed.{row_apart, session_apart, sum_fits}
 use Rattle.handed.specs.OnceOver.{member_passes, row_passes}
 
@@ -37,19 +37,19 @@ path_of_hop w s e h = go (hop_of w s e) refl
 module _ (w : List ℕ) (e : ℕ) where
   -- ALL THAT IT HOLDS -------------------------------------------------------------------------------------------------
 
-  pub row-all : (left : ℕ) → left ≡ 0 → Shown (λ s. member_passes w e s ≡ true) 32 (held_word w e) left → row_passes w e ≡ true
+  pub row_all : (left : ℕ) → left ≡ 0 → Shown (λ s. member_passes w e s ≡ true) 32 (held_word w e) left → row_passes w e ≡ true
   unfolding row_passes
-  row-all left z h =
+  row_all left z h =
       all_below 32 (λ s. not (holds (place_of w e) s) || member_passes w e s)
       (λ s l.
       implies (holds (place_of w e) s) (member_passes w e s)
-      (λ t. shown-all (λ s. member_passes w e s ≡ true) 32 (held_word w e) left z h s l (is_in (held_word w e) s (held-is w e s ∙ t))))
+      (λ t. shown_all (λ s. member_passes w e s ≡ true) 32 (held_word w e) left z h s l (is_in (held_word w e) s (held_is w e s ∙ t))))
 
-  pub row-fails : (s : ℕ) → s < 32 → has s (held_word w e) ≡ 1 → member_passes w e s ≡ false → row_passes w e ≡ false
+  pub row_fails : (s : ℕ) → s < 32 → has s (held_word w e) ≡ 1 → member_passes w e s ≡ false → row_passes w e ≡ false
   unfolding row_passes
-  row-fails s l i m =
+  row_fails s l i m =
       all_fails 32 (λ s. not (holds (place_of w e) s) || member_passes w e s) s l
-      (ap₂ (λ (a b : Bool). not a || b) (sym (held-is w e s) ∙ eq-eqb (has s (held_word w e)) 1 i) m)
+      (ap₂ (λ (a b : Bool). not a || b) (sym (held_is w e s) ∙ eq-eqb (has s (held_word w e)) 1 i) m)
 
   -- IN BOTH R AND F ---------------------------------------------------------------------------------------------------
 
@@ -57,26 +57,26 @@ module _ (w : List ℕ) (e : ℕ) where
   unfolding row_apart session_apart
   words_apart h = all_below 32 (session_apart w e) (λ s l. apart_each (link_of w e).r (link_of w e).f h s)
 
-  pub words-meet : 0 < bit_and (link_of w e).r (link_of w e).f → row_apart w e ≡ false
+  pub words_meet : 0 < bit_and (link_of w e).r (link_of w e).f → row_apart w e ≡ false
   unfolding row_apart session_apart
-  words-meet h =
+  words_meet h =
       not_so (all 32 (session_apart w e))
       (λ a. omega (arith, h, word_apart 32 (link_of w e).r (link_of w e).f (omega (arith, r_below w e)) (λ s l. all_at 32 (session_apart w e) s a l)))
 
   -- A LINK THAT HOLDS NOBODY ------------------------------------------------------------------------------------------
 
   module _ (z : held_word w e ≡ 0) where
-    pub empty-apart : row_apart w e ≡ true
+    pub empty_apart : row_apart w e ≡ true
     unfolding row_apart session_apart
-    empty-apart = all_below 32 (session_apart w e) (λ s l. ap (λ (a : Bool). not (a && in_f (place_of w e) s)) (nobody_held w e z s).0)
+    empty_apart = all_below 32 (session_apart w e) (λ s l. ap (λ (a : Bool). not (a && in_f (place_of w e) s)) (nobody_held w e z s).0)
 
     pub empty_row : row_passes w e ≡ true
-    empty_row = row-all 0 refl (λ s l i o. absurd (omega (arith, i, ap (has s) z, has_zero s)))
+    empty_row = row_all 0 refl (λ s l i o. absurd (omega (arith, i, ap (has s) z, has_zero s)))
 
-    pub empty-fits : sum_fits w e ≡ true
+    pub empty_fits : sum_fits w e ≡ true
     unfolding sum_fits B
-    empty-fits =
-        let q = none-summed w e z in
+    empty_fits =
+        let q = none_summed w e z in
         let c = (link_of w e).capacity in
         let k = size_of (link_of w e).r in
         ap₂ ◌&&◌ (ap (λ (x : Total). not (is_past_c x)) q)

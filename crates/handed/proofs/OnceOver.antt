@@ -56,9 +56,9 @@ module _ (w : List ℕ) where
       let b = and_both (entry_fits w e s) (live w e s) a.1 in
       (a.0, b.0, b.1)
 
-  pub sessions-in-range : all 32 (session_passes w) ≡ true → sources_in_range w ≡ true
+  pub sessions_in_range : all 32 (session_passes w) ≡ true → sources_in_range w ≡ true
   unfolding sources_in_range
-  sessions-in-range h = all_below 32 (source_in_range w) (λ s l. (session_parts h s l).0)
+  sessions_in_range h = all_below 32 (source_in_range w) (λ s l. (session_parts h s l).0)
 
   -- CLAUSE BY CLAUSE --------------------------------------------------------------------------------------------------
 
@@ -75,7 +75,7 @@ module _ (w : List ℕ) where
         (ap₂ ◌&&◌ (all_below 64 (link_fits w) (λ e l. (link_parts ls e l).0))
         (ap₂ ◌&&◌
         (all_below 64 (row_in_range w) (λ e l. all_below 32 (entry_in_range w e) (λ s m. implies (holds (place_of w e) s) (entry_fits w e s) (λ t. (part e s l m t).1))))
-        (ap₂ ◌&&◌ (sessions-in-range ss) (all_below (count_of w) (packet_fits w) (λ i l. (packet_parts ps i l).0)))))
+        (ap₂ ◌&&◌ (sessions_in_range ss) (all_below (count_of w) (packet_fits w) (λ i l. (packet_parts ps i l).0)))))
 
     paths : paths_pass w ≡ true
     unfolding paths_pass paths_declared path_declared paths_once path_once packets_on_path packets_on_their_way
@@ -164,5 +164,5 @@ module _ (w : List ℕ) where
       (ap₂ ◌&&◌ (session_once f4.0 p1.0 p2.0)
       (ap₂ ◌&&◌ (packet_once f4.1 p3.0 p3.1) (link_once f2.0 l1.0 (row_once f3.0 l2.0 l3.0) l3.1)))
 
-  pub once-over : once_over w ≡ passes14_of w
-  once-over = same_test (once_over w) (passes14_of w) once_clauses clauses_once
+  pub once_over_lem : once_over w ≡ passes14_of w
+  once_over_lem = same_test (once_over w) (passes14_of w) once_clauses clauses_once

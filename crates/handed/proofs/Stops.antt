@@ -58,10 +58,10 @@ module _ (w : List ℕ) (s : ℕ) where
             ap (λ (m : ℕ). eqb m 1) (ap (has e) p ∙ has_put_other d e seen n)
             ∙ (h e ∙ ap not (sym (all_same i (other w s e) (ap not (ne_eqb (stop_of w s i) e (λ y. n (q ∙ y)))))))
 
-    pub stop-old : has_of d seen ≡ true → stop_new w s i ≡ false
+    pub stop_old : has_of d seen ≡ true → stop_new w s i ≡ false
     unfolding stop_new
-    stop-old t = not_true (all i (other w s (stop_of w s i))) (sym (h (stop_of w s i)) ∙ sym (ap (λ (e : ℕ). has_of e seen) q) ∙ t)
+    stop_old t = not_true (all i (other w s (stop_of w s i))) (sym (h (stop_of w s i)) ∙ sym (ap (λ (e : ℕ). has_of e seen) q) ∙ t)
 
-    pub stop-fresh : has_of d seen ≡ false → stop_new w s i ≡ true
+    pub stop_fresh : has_of d seen ≡ false → stop_new w s i ≡ true
     unfolding stop_new
-    stop-fresh t = not-false (all i (other w s (stop_of w s i))) (sym (h (stop_of w s i)) ∙ sym (ap (λ (e : ℕ). has_of e seen) q) ∙ t)
+    stop_fresh t = not-false (all i (other w s (stop_of w s i))) (sym (h (stop_of w s i)) ∙ sym (ap (λ (e : ℕ). has_of e seen) q) ∙ t)

@@ -1,5 +1,5 @@
 -- The test of refusal 14 with its clauses put together by what they look at: each session, each packet and each link is asked for all of its clauses at
--- once. It is the same test (`once-over`, proofs/OnceOver.antt), and the one that the code follows.
+-- once. It is the same test (`once_over_lem`, proofs/OnceOver.antt), and the one that the code follows.
 -- Assumes nothing: definitions.
 use Rattle.std.specs.Prelude.{Bool, not, ◌&&◌, ◌||◌, List, ℕ, ltb}
 use Rattle.links.specs.Links.{holds}

@@ -82,14 +82,14 @@ abbrev pub slice_val_lem : ℕ → ℕ → List Entry → Val
 slice_val_lem b o ys = slice_val (b, o) (length ys)
 
 module _ {M : Type 1} {𝓤 : Ura M} (𝓛 : Logic 𝓤) where
-  pub link-typed : (l : Link) (w : Val) → Is L.the_row l (w ∷ []) → Typed L'.mir w
-  link-typed l w is = ((LL.lawful L.the_type L'.the_laws 𝓛).typed l _ is).0
+  pub link_typed : (l : Link) (w : Val) → Is L.the_row l (w ∷ []) → Typed L'.mir w
+  link_typed l w is = ((LL.lawful L.the_type L'.the_laws 𝓛).typed l _ is).0
 
   pub array_typed : (a : List Entry) (w : Val) → Is (Array T.the_row 32) a (w ∷ []) → Typed (ty_array T'.mir 32) w
   array_typed a w is = ((Array-Lawful 𝓛 T.the_row (LL.lawful T.the_type T'.the_laws 𝓛) 32).typed a _ is).0
 
-  pub short-typed : Typed R'.mir short_val
-  short-typed = ((EL.lawful R.the_type R'.the_laws 𝓛 tt).typed ShortSlice _ short_is).0
+  pub short_typed : Typed R'.mir short_val
+  short_typed = ((EL.lawful R.the_type R'.the_laws 𝓛 tt).typed ShortSlice _ short_is).0
 
   -- what an array owns is had for nothing
   pub array_owned : (a : List Entry) (w : Val) → Is (Array T.the_row 32) a (w ∷ []) → ent 𝓤 (emp 𝓤) (sem 𝓛 ((Array T.the_row 32).own_val a (w ∷ [])))
@@ -111,20 +111,20 @@ module _ {M : Type 1} {𝓤 : Ura M} (𝓛 : Logic 𝓤) (mem : Memory → SProp
     abbrev s : Val
     s = slice_val_lem b o ys
 
-    abbrev pub to-load : ℕ → GName → Load.Ghost
-    to-load ν δ = (((ν ∷ [], tt), (full_share, tt), tt, (slice b o ys δ, tt), (s ∷ [], tt)), tt)
+    abbrev pub to_load : ℕ → GName → Load.Ghost
+    to_load ν δ = (((ν ∷ [], tt), (full_share, tt), tt, (slice b o ys δ, tt), (s ∷ [], tt)), tt)
 
     pub goes_load : 32 ≤ length ys → (ν : ℕ) (δ : GName)
-        → ent 𝓤 (sep 𝓤 (A.lft (ν ∷ []) full_share) (sem 𝓛 ((ShrSlice (named 0) (ν ∷ []) T.the_row).own_val (slice b o ys δ) (s ∷ [])))) (Load.pre (to-load ν δ))
+        → ent 𝓤 (sep 𝓤 (A.lft (ν ∷ []) full_share) (sem 𝓛 ((ShrSlice (named 0) (ν ∷ []) T.the_row).own_val (slice b o ys δ) (s ∷ [])))) (Load.pre (to_load ν δ))
     goes_load enough ν δ =
         qed 𝓛 (‵ (flft (ν ∷ []) full_share) ∷ ‵ ((ShrSlice (named 0) (ν ∷ []) T.the_row).own_val (slice b o ys δ) (s ∷ [])) ∷ []) ∵ says ! enough $ nothing ! $ move ! (1 ∷ 0 ∷ []) $ join ! $ frame ! $
         nothing ! $ move ! (1 ∷ 0 ∷ []) $ fjoin ! $ done !
 
-    abbrev pub to-store : Lft → Share → GName → List Entry → Val → Store.Ghost
-    to-store κ q γ a w = (((κ, tt), (q, tt), tt, (slice b o ys γ, (a, tt)), (s ∷ [], (w ∷ [], tt))), tt)
+    abbrev pub to_store : Lft → Share → GName → List Entry → Val → Store.Ghost
+    to_store κ q γ a w = (((κ, tt), (q, tt), tt, (slice b o ys γ, (a, tt)), (s ∷ [], (w ∷ [], tt))), tt)
 
-    pub goes-store : 32 ≤ length ys → (κ : Lft) (q : Share) (γ : GName) (a : List Entry) (w : Val) → Is (Array T.the_row 32) a (w ∷ [])
-        → ent 𝓤 (sep 𝓤 (A.lft κ q) (sem 𝓛 ((MutSlice (named 1) κ T.the_row).own_val (slice b o ys γ) (s ∷ [])))) (Store.pre (to-store κ q γ a w))
-    goes-store enough κ q γ a w is =
+    pub goes_store : 32 ≤ length ys → (κ : Lft) (q : Share) (γ : GName) (a : List Entry) (w : Val) → Is (Array T.the_row 32) a (w ∷ [])
+        → ent 𝓤 (sep 𝓤 (A.lft κ q) (sem 𝓛 ((MutSlice (named 1) κ T.the_row).own_val (slice b o ys γ) (s ∷ [])))) (Store.pre (to_store κ q γ a w))
+    goes_store enough κ q γ a w is =
         qed 𝓛 (‵ (flft κ q) ∷ ‵ ((MutSlice (named 1) κ T.the_row).own_val (slice b o ys γ) (s ∷ [])) ∷ []) ∵ says ! enough $ nothing ! $ move ! (1 ∷ 0 ∷ []) $ join ! $ frame ! $
         nothing ! $ use0 𝓛 (‵ ((Array T.the_row 32).own_val a (w ∷ []))) (array_owned 𝓛 a w is) $ fjoin ! $ move ! (1 ∷ 0 ∷ []) $ fjoin ! $ done !

@@ -51,16 +51,16 @@ module _ {X : Type 0} where
   mid es ys i = take i es ++ drop i ys
 
   -- a turn's store
-  pub mid-next : (es ys : List X) (i : ℕ) (d : X) → i < length es → i < length ys → set (mid es ys i) i (get_or es i d) ≡ mid es ys (i + 1)
-  mid-next es ys i d le ly =
+  pub mid_next : (es ys : List X) (i : ℕ) (d : X) → i < length es → i < length ys → set (mid es ys i) i (get_or es i d) ≡ mid es ys (i + 1)
+  mid_next es ys i d le ly =
       ap (λ (l : List X). set (take i es ++ l) i (get_or es i d)) (drop-cons ys i d ly)
       ∙ set_at (take i es) (get_or ys i d) (drop (suc i) ys) (get_or es i d) i (length-take-le i es (omega arith))
       ∙ sym (append_snoc (take i es) (get_or es i d) (drop (suc i) ys))
       ∙ ap (λ (l : List X). l ++ drop (suc i) ys) (sym (take-suc es i d le))
       ∙ ap (λ (k : ℕ). mid es ys k) (sym (add-one i))
 
-  pub mid-length : (es ys : List X) (i : ℕ) → i ≤ length es → i ≤ length ys → length (mid es ys i) ≡ length ys
-  mid-length es ys i le ly = length-append (take i es) (drop i ys) ∙ omega (arith, length-take-le i es le, length-drop i ys)
+  pub mid_length : (es ys : List X) (i : ℕ) → i ≤ length es → i ≤ length ys → length (mid es ys i) ≡ length ys
+  mid_length es ys i le ly = length-append (take i es) (drop i ys) ∙ omega (arith, length-take-le i es le, length-drop i ys)
 
 -- ---- a struct's field that is an array of structs: as an array of its own it holds the author's records
 field_each : (D : Declared) (xs : List D.D) (us : List Val) → shadow (each (field D).row.Denot (field D).row.own_val (map D.to xs) us) → shadow (each D.D (record-row D).own xs us)
@@ -86,9 +86,9 @@ module _ {M : Type 1} {𝓤 : Ura M} (𝓛 : Logic 𝓤) (R : RattleType) (one :
   abbrev pub arr : Ty
   arr = ty_array (lone R.mir) n
 
-  pub array-out : Makes 𝓛 R (Is R) → (xs : List R.Denot) (v : Val) (b o : ℕ) → Is (Array R n) xs (v ∷ []) → ent 𝓤 (sem 𝓛 (fat full_share arr b o v)) (sem 𝓛 (row R full_share xs b o))
+  pub array_out : Makes 𝓛 R (Is R) → (xs : List R.Denot) (v : Val) (b o : ℕ) → Is (Array R n) xs (v ∷ []) → ent 𝓤 (sem 𝓛 (fat full_share arr b o v)) (sem 𝓛 (row R full_share xs b o))
   unfolding part_of
-  array-out mk xs v b o is =
+  array_out mk xs v b o is =
       qed 𝓛 (‵ (fat full_share arr b o v) ∷ []) ∵ use1 𝓛 (‵ (cell_at full_share (Array R n).mir (v ∷ []) b o)) (𝓛.laws.at_raw full_share arr b o v) $
       owned ! (Array R n) (Is (Array R n)) (Array-Makes 𝓛 R mk n) xs (v ∷ []) is $ move ! (1 ∷ 0 ∷ []) $ fjoin ! $
       fpack ! (List Val) (λ us. fsep (cell_at full_share (Array R n).mir us b o) ((Array R n).own_val xs us)) (v ∷ []) $
@@ -99,10 +99,10 @@ module _ {M : Type 1} {𝓤 : Ura M} (𝓛 : Logic 𝓤) (R : RattleType) (one :
     abbrev pub val : List R.Denot → List Val
     val xs = array_vals vals xs
 
-    pub array-in : (xs : List R.Denot) (b o : ℕ) → length xs ≡ n
+    pub array_in : (xs : List R.Denot) (b o : ℕ) → length xs ≡ n
         → ent 𝓤 (sem 𝓛 (row R full_share xs b o)) (guard 𝓤 (Is (Array R n) xs (val xs)) (sem 𝓛 (cell_at full_share (Array R n).mir (val xs) b o)))
     unfolding part_of
-    array-in xs b o l =
+    array_in xs b o l =
         qed 𝓛 (‵ (row R full_share xs b o) ∷ []) ∵ feq_i ! ℕ (length xs) n l $ fjoin ! $ use1 𝓛 (‵ (part_at (Array R n) full_share xs b o)) (Array-whole 𝓛 R full_share n xs b o) $
         fpick ! (λ vs. fsplit ! $ spelt ! (Array R n) (Is (Array R n)) (shows 𝓛 (Array R n)) val (Array-Tells R vals tl n) full_share xs vs b o $
         move ! (1 ∷ []) $ peeks ! (Array R n) (Is (Array R n)) (shows 𝓛 (Array R n)) xs (val xs) (λ is. away ! $ check ! is $ done !))

@@ -61,11 +61,11 @@ module _ (l : Link) (es : List Entry) (n : length es ≡ 32) where
       ∙ ap (λ (t : Bool). check_by (fits l es) t (process_of (place_of l es)) l es []) (sym y)
       ∙ sym (check_32 l es n)
 
-  pub check-14 : fits l es ≡ false → check_refused refusal.BadTable l es ≡ f_check_of l es
-  check-14 x = check_at false (is_fine (process_of (place_of l es)).bound) x refl
+  pub check_14 : fits l es ≡ false → check_refused refusal.BadTable l es ≡ f_check_of l es
+  check_14 x = check_at false (is_fine (process_of (place_of l es)).bound) x refl
 
-  pub check-12 : (q : Processed) → fits l es ≡ true → q ≡ process_of (place_of l es) → is_fine q.bound ≡ false → check_refused refusal.TooFine l es ≡ f_check_of l es
-  check-12 q x e y = check_at true false x (ap (λ (z : Processed). is_fine z.bound) (sym e) ∙ y)
+  pub check_12 : (q : Processed) → fits l es ≡ true → q ≡ process_of (place_of l es) → is_fine q.bound ≡ false → check_refused refusal.TooFine l es ≡ f_check_of l es
+  check_12 q x e y = check_at true false x (ap (λ (z : Processed). is_fine z.bound) (sym e) ∙ y)
 
   pub check_done_lem : (q : Processed) → fits l es ≡ true → q ≡ process_of (place_of l es) → is_fine q.bound ≡ true
       → ◌≡◌ {A = Checking} (record { link = q.place.link; entries = q.place.entries; answer = checked.Done q.to q.bound }) (f_check_of l es)
@@ -112,10 +112,10 @@ module _ (e s : ℕ) (k : Kind) where
   unfolding step_link_of
   step_long l es n = rw (long es n)
 
-  pub step-32 : (l : Link) (es : List Entry)
+  pub step_32 : (l : Link) (es : List Entry)
       → length es ≡ 32
       → step_link_of e s k l es ≡ step_by (step_fits s k l es) (link_step_of e s k (place_of l es)).fine (link_step_of e s k (place_of l es)) l es []
-  step-32 l es n =
+  step_32 l es n =
       step_long l es (omega (arith, n))
       ∙ ap (λ (z : List Entry). step_by (step_fits s k l z) (link_step_of e s k (place_of l z)).fine (link_step_of e s k (place_of l z)) l es (drop 32 es)) (take_all 32 es (omega (arith, n)))
       ∙ ap (λ (z : List Entry). step_by (step_fits s k l es) (link_step_of e s k (place_of l es)).fine (link_step_of e s k (place_of l es)) l es z) (drop_of_length-le es {i = 32} (omega (arith, n)))
@@ -126,17 +126,17 @@ module _ (e s : ℕ) (k : Kind) (l : Link) (es : List Entry) (n : length es ≡ 
   step_at f b x y =
       ap (λ (t : Bool). step_by t b (link_step_of e s k (place_of l es)) l es []) (sym x)
       ∙ ap (λ (t : Bool). step_by (step_fits s k l es) t (link_step_of e s k (place_of l es)) l es []) (sym y)
-      ∙ sym (step-32 e s k l es n)
+      ∙ sym (step_32 e s k l es n)
 
-  pub step-14 : step_fits s k l es ≡ false → step_refused refusal.BadTable l es ≡ step_link_of e s k l es
-  step-14 x = step_at false (link_step_of e s k (place_of l es)).fine x refl
+  pub step_14 : step_fits s k l es ≡ false → step_refused refusal.BadTable l es ≡ step_link_of e s k l es
+  step_14 x = step_at false (link_step_of e s k (place_of l es)).fine x refl
 
-  pub step-12 : (d : Did) → step_fits s k l es ≡ true → d ≡ link_step_of e s k (place_of l es) → d.fine ≡ false → step_refused refusal.TooFine l es ≡ step_link_of e s k l es
-  step-12 d x h y = step_at true false x (ap (λ (z : Did). z.fine) (sym h) ∙ y)
+  pub step_12 : (d : Did) → step_fits s k l es ≡ true → d ≡ link_step_of e s k (place_of l es) → d.fine ≡ false → step_refused refusal.TooFine l es ≡ step_link_of e s k l es
+  step_12 d x h y = step_at true false x (ap (λ (z : Did). z.fine) (sym h) ∙ y)
 
-  pub step-done : (d : Did) → step_fits s k l es ≡ true → d ≡ link_step_of e s k (place_of l es) → d.fine ≡ true
+  pub step_done_lem : (d : Did) → step_fits s k l es ≡ true → d ≡ link_step_of e s k (place_of l es) → d.fine ≡ true
       → ◌≡◌ {A = Stepping} (record { link = d.place.link; entries = d.place.entries; answer = stepped.Done d.burst d.to d.on }) (step_link_of e s k l es)
-  step-done d x h y =
+  step_done_lem d x h y =
       ap (λ (z : List Entry). record { link = d.place.link; entries = z; answer = stepped.Done d.burst d.to d.on }) (sym (append-nil d.place.entries))
       ∙ ap (λ (z : Did). step_done z []) h
       ∙ step_at true true x (ap (λ (z : Did). z.fine) (sym h) ∙ y)
@@ -153,7 +153,7 @@ step_over_lem false b d l es rest ys e = ap (λ (z : List Entry). step_refused r
 -- the step of the first 32 places, put back into the slice, is the step of the slice
 pub step_whole : (e s : ℕ) (k : Kind) (l : Link) (ys : List Entry) → 32 ≤ length ys → step_over (step_link_of e s k l (take 32 ys)) (drop 32 ys) ≡ step_link_of e s k l ys
 step_whole e s k l ys n =
-    ap (λ (c : Stepping). step_over c (drop 32 ys)) (step-32 e s k l (take 32 ys) (length-take-le 32 ys n))
+    ap (λ (c : Stepping). step_over c (drop 32 ys)) (step_32 e s k l (take 32 ys) (length-take-le 32 ys n))
     ∙ step_over_lem (step_fits s k l (take 32 ys)) (link_step_of e s k (place_of l (take 32 ys))).fine (link_step_of e s k (place_of l (take 32 ys))) l (take 32 ys) (drop 32 ys) ys (take-append-drop 32 ys)
     ∙ sym (step_long e s k l ys n)
 

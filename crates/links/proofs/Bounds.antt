@@ -17,13 +17,13 @@ unfolding sum_of walk
 sum_none p h = rw (no_members 32 (F p) h)
 
 module _ (c k : ℕ) where
-  pub bound-none : (y : Rate) → k ≡ 0 → bound_of c k (total.Rate y) ≡ bound.Above
+  pub bound_none : (y : Rate) → k ≡ 0 → bound_of c k (total.Rate y) ≡ bound.Above
   unfolding bound_of
-  bound-none y e = rw e
+  bound_none y e = rw e
 
-  pub bound-past-none : k ≡ 0 → bound_of c k total.PastC ≡ bound.Above
+  pub bound_past_none : k ≡ 0 → bound_of c k total.PastC ≡ bound.Above
   unfolding bound_of
-  bound-past-none e = rw e
+  bound_past_none e = rw e
 
 pub bound_some : (c k : ℕ) (y : Rate) → 0 < k → bound_of c k (total.Rate y) ≡ as_bound (share_of c y k)
 unfolding bound_of

@@ -23,16 +23,16 @@ module _ (p : Place) (n z : ℕ) (b : Bound) (h : n < 32) (e : b ≡ B p) (f : z
   found = f ∙ ap (λ (x : Bound). those_of (wanted.AtLeast x) p.entries (F p)) e
 
   -- none is left: the check ends
-  pub check-stays : z ≡ 0 → check_of (32 - n) p ≡ p
+  pub check_stays : z ≡ 0 → check_of (32 - n) p ≡ p
   unfolding check_of
-  check-stays k =
+  check_stays k =
       let t : some_of (wanted.AtLeast (B p)) p.entries (F p) ≡ false = ap not (eq-eqb _ _ (sym found ∙ k)) in
       rw (fuel n h, t)
 
   -- some are: it takes a turn
-  pub check-turns : (z ≡ 0 → ⊥) → (q : Place) → q ≡ turn_of p → check_of (32 - n) p ≡ check_of (32 - (n + 1)) q
+  pub check_turns : (z ≡ 0 → ⊥) → (q : Place) → q ≡ turn_of p → check_of (32 - n) p ≡ check_of (32 - (n + 1)) q
   unfolding check_of
-  check-turns k q g =
+  check_turns k q g =
       let t : some_of (wanted.AtLeast (B p)) p.entries (F p) ≡ true = ap not (ne_eqb _ _ (λ x. k (found ∙ x))) in
       rw (fuel n h, t, g)
 

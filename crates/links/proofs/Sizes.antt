@@ -22,7 +22,7 @@ use Rattle.fractions.proofs.LowestTerms.{lowest_pos}
 use Rattle.fractions.proofs.Ranges.{plus_sized, sized_more, whole_sized, within_sized}
 use Rattle.fractions.proofs.Shares.{share_within}
 use Rattle.sessions.specs.Set.{members, walk}
-use Rattle.sessions.proofs.Walks.{walk-keeps}
+use Rattle.sessions.proofs.Walks.{walk_keeps}
 use Rattle.links.specs.declared.Bound.{Bound}
 use Rattle.links.specs.declared.Bound.TheVariants as bound
 use Rattle.links.specs.declared.Entry.{Entry}
@@ -90,7 +90,7 @@ pub sum_sized : (p : Place) → Workable p → TotalSized p.link.capacity (sum_o
 unfolding sum_of
 sum_sized p o =
     let c = p.link.capacity in
-    walk-keeps (TotalSized c) (λ a s. more_of c a (rate_at p s)) 32 p.link.f
+    walk_keeps (TotalSized c) (λ a s. more_of c a (rate_at p s)) 32 p.link.f
     (λ a s l q. more_sized c a (rate_at p s) o.capacity q (o.rates.sized s l))
     (total.Rate zero_of) (whole_sized {m = c} {n = 0} (omega arith))
 
@@ -115,14 +115,14 @@ bound_sized c (suc k) (total.Rate y) h u = share_sized c y (suc k) h u.pos (omeg
 bound_sized c zero total.PastC h u = lit≤ tt
 bound_sized c (suc k) total.PastC h u = whole_sized {m = max_rate} {n = 0} (lit≤ tt)
 
-pub B-sized : (p : Place) → Workable p → BoundSized (B p)
+pub b_sized : (p : Place) → Workable p → BoundSized (B p)
 unfolding B
-B-sized p o = bound_sized p.link.capacity _ (sum_of p) o.capacity (sum_sized p o)
+b_sized p o = bound_sized p.link.capacity _ (sum_of p) o.capacity (sum_sized p o)
 
 pub highest_sized : (p : Place) → Rates p.entries → Sized max_rate (highest_of p)
 unfolding highest_of
 highest_sized p o =
-    walk-keeps (Sized max_rate) (λ a s. higher_of a (rate_at p s)) 32 p.link.f (λ a s l q. higher_sized a (rate_at p s) q (o.sized s l)) zero_of
+    walk_keeps (Sized max_rate) (λ a s. higher_of a (rate_at p s)) 32 p.link.f (λ a s l q. higher_sized a (rate_at p s) q (o.sized s l)) zero_of
     (whole_sized {m = max_rate} {n = 0} (lit≤ tt))
 
 -- THE ENTRIES AFTER A CHANGE ------------------------------------------------------------------------------------------
@@ -156,7 +156,7 @@ rates_mu es s m l o = rates_set es s _ o (o.sized s l)
 -- sessions wait for a probe
 pub rates_waiting : (p : Place) (w : ℕ) → Rates p.entries → Rates (waiting_of p w).entries
 unfolding waiting_of
-rates_waiting p w o = walk-keeps Rates wait_in 32 w (λ es s l q. rates_mu es s mu.WaitingProbe l q) p.entries o
+rates_waiting p w o = walk_keeps Rates wait_in 32 w (λ es s l q. rates_mu es s mu.WaitingProbe l q) p.entries o
 
 -- the F check moves sessions between R and F, and changes nothing else
 pub turn_workable : (p : Place) → Workable p → Workable (turn_of p)
@@ -183,4 +183,4 @@ workable_mu p s m l o = record { capacity = o.capacity; rates = rates_mu p.entri
 -- B after ProcessNewRestricted
 pub process_sized : (p : Place) → Workable p → BoundSized (process_of p).bound
 unfolding process_of
-process_sized p o = B-sized (check_of 32 p) (check_workable 32 p o)
+process_sized p o = b_sized (check_of 32 p) (check_workable 32 p o)

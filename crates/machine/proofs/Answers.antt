@@ -33,9 +33,9 @@ module _ (w s : List ℕ) (p : Bool) (is : p ≡ passes14_of w) where
   abbrev within : records.Ran (List ℕ)
   within = cond (ltb 32768 (length s)) (turned_away refusal.TooLong w) (run_records_of w s)
 
-  pub handed-away : p ≡ false → (r : Ran) → r ≡ nothing_taken refusal.BadTable → ran_of r w ≡ machine_of w s
+  pub handed_away : p ≡ false → (r : Ran) → r ≡ nothing_taken refusal.BadTable → ran_of r w ≡ machine_of w s
   unfolding machine_of
-  handed-away h r e = ap (λ (x : Ran). ran_of x w) e ∙ sym (chosen (passes14_of w) false within (turned_away refusal.BadTable w) (sym is ∙ h))
+  handed_away h r e = ap (λ (x : Ran). ran_of x w) e ∙ sym (chosen (passes14_of w) false within (turned_away refusal.BadTable w) (sym is ∙ h))
 
   module _ (h : p ≡ true) where
     passed : machine_of w s ≡ within
@@ -56,9 +56,9 @@ module _ (w : List ℕ) (p : Bool) (is : p ≡ passes14_of w) where
   abbrev answer : SettledAnswer
   answer = cond (settled_of w) settled.Yes settled.No
 
-  pub question-refused : p ≡ false → (settled.Refused refusal.BadTable 0 ≡ answer_of w) × Means w (settled.Refused refusal.BadTable 0)
+  pub question_refused : p ≡ false → (settled.Refused refusal.BadTable 0 ≡ answer_of w) × Means w (settled.Refused refusal.BadTable 0)
   unfolding answer_of
-  question-refused h = (
+  question_refused h = (
     sym (chosen (passes14_of w) false answer (settled.Refused refusal.BadTable 0) (sym is ∙ h)),
     (refl, refl, λ g. clash (passes14_of w) (means_passes w g) (sym is ∙ h)),
   )
@@ -68,11 +68,11 @@ module _ (w : List ℕ) (p : Bool) (is : p ≡ passes14_of w) where
     unfolding answer_of
     asked = chosen (passes14_of w) true answer (settled.Refused refusal.BadTable 0) (sym is ∙ h)
 
-    pub settled-yes : q ≡ true → (settled.Yes ≡ answer_of w) × Means w settled.Yes
-    settled-yes k = (sym (asked ∙ chosen (settled_of w) true settled.Yes settled.No (sym is' ∙ k)), (passes_means w (sym is ∙ h), settled_means w (sym is' ∙ k)))
+    pub settled_yes : q ≡ true → (settled.Yes ≡ answer_of w) × Means w settled.Yes
+    settled_yes k = (sym (asked ∙ chosen (settled_of w) true settled.Yes settled.No (sym is' ∙ k)), (passes_means w (sym is ∙ h), settled_means w (sym is' ∙ k)))
 
-    pub settled-no : q ≡ false → (settled.No ≡ answer_of w) × Means w settled.No
-    settled-no k = (
+    pub settled_no : q ≡ false → (settled.No ≡ answer_of w) × Means w settled.No
+    settled_no k = (
       sym (asked ∙ chosen (settled_of w) false settled.Yes settled.No (sym is' ∙ k)),
       (passes_means w (sym is ∙ h), λ g. clash (settled_of w) (means_settled w g) (sym is' ∙ k)),
     )

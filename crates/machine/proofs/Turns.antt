@@ -17,9 +17,9 @@ use Rattle.records.specs.declared.Verdict.{Verdict}
 use Rattle.records.specs.declared.Verdict.TheVariants as verdict
 use Rattle.records.specs.Format.{read_at, size_at}
 use Rattle.records.specs.Run.{Ran, judged, run_from, weighed}
-use Rattle.records.proofs.ReadRecords.{judged-record-ends}
+use Rattle.records.proofs.ReadRecords.{judged_record_ends}
 use Rattle.records.proofs.Refused.{not_taken}
-use Rattle.records.proofs.Runs.{run-refused, run-taken}
+use Rattle.records.proofs.Runs.{run_refused, run_taken}
 use Rattle.machine.specs.Machine.{acting, judging, read_step, step_of}
 
 -- the records from place `at` on, where n were taken and left w
@@ -52,17 +52,17 @@ module _ (s w u : List ℕ) (n at : ℕ) (v : Verdict) (a : n ≤ at) (b : at < 
     taken_by (read.Record x) q f =
         let h : judged (read_at call.Machine s at) (judging s w) ≡ read.Record x =
         ap (λ (r : Read). judged r (judging s w)) q ∙ reads s w x verdict.Taken (sym (ap (λ (z : Step). z.verdict) f) ∙ t) in (
-          judged-record-ends call.Machine s at (judging s w) x h,
-          run-taken call.Machine (judging s) (acting s) s w n at x a b h
+          judged_record_ends call.Machine s at (judging s w) x h,
+          run_taken call.Machine (judging s) (acting s) s w n at x a b h
               ∙ ap (λ (z : List ℕ). going s (length s - (n + 1)) z (n + 1) (at + size_at s at)) (sym (ap (λ (z : Step). z.words) f)),
         )
     taken_by (read.Refused r) q f = absurd (not_taken r (sym (ap (λ (z : Step). z.verdict) f) ∙ t))
 
-    pub turn-ends : at + size_at s at ≤ length s
-    turn-ends = (taken_by (read_at call.Machine s at) refl made).0
+    pub turn_ends : at + size_at s at ≤ length s
+    turn_ends = (taken_by (read_at call.Machine s at) refl made).0
 
-    pub turn-taken : going s (length s - n) w n at ≡ going s (length s - (n + 1)) u (n + 1) (at + size_at s at)
-    turn-taken = (taken_by (read_at call.Machine s at) refl made).1
+    pub turn_taken : going s (length s - n) w n at ≡ going s (length s - (n + 1)) u (n + 1) (at + size_at s at)
+    turn_taken = (taken_by (read_at call.Machine s at) refl made).1
 
   -- it was refused
   module _ (r : Refusal) (t : v ≡ verdict.Refused r) where
@@ -72,14 +72,14 @@ module _ (s w u : List ℕ) (n at : ℕ) (v : Verdict) (a : n ≤ at) (b : at < 
         let k : (event_of s w x).verdict ≡ verdict.Refused r = sym (ap (λ (z : Step). z.verdict) f) ∙ t in
         let h : judged (read_at call.Machine s at) (judging s w) ≡ read.Refused r =
         ap (λ (r : Read). judged r (judging s w)) q ∙ reads s w x (verdict.Refused r) k in
-        run-refused call.Machine (judging s) (acting s) s w n at r a b h
+        run_refused call.Machine (judging s) (acting s) s w n at r a b h
         ∙ ap (λ (z : List ℕ). stopped z n r at) (sym (ap (λ (z : Step). z.words) f ∙ refused_keeps s w x r k))
     refused_by (read.Refused p) q f =
         let k : verdict.Refused p ≡ verdict.Refused r = sym (ap (λ (z : Step). z.verdict) f) ∙ t in
         let h : judged (read_at call.Machine s at) (judging s w) ≡ read.Refused r =
         ap (λ (r : Read). judged r (judging s w)) q ∙ ap refusal_read k in
-        run-refused call.Machine (judging s) (acting s) s w n at r a b h
+        run_refused call.Machine (judging s) (acting s) s w n at r a b h
         ∙ ap (λ (z : List ℕ). stopped z n r at) (sym (ap (λ (z : Step). z.words) f))
 
-    pub turn-refused : going s (length s - n) w n at ≡ stopped u n r at
-    turn-refused = refused_by (read_at call.Machine s at) refl made
+    pub turn_refused : going s (length s - n) w n at ≡ stopped u n r at
+    turn_refused = refused_by (read_at call.Machine s at) refl made

@@ -23,38 +23,38 @@ use Rattle.writing.specs.declared.Wrote.TheVariants as wrote
 use Rattle.writing.specs.Sets.{SameSet}
 use Rattle.writing.specs.Writing.{records_of}
 use Rattle.writing.specs.Written.{Written, nothing_written, written, written_of}
-use Rattle.writing.proofs.Lengths.{output-most}
+use Rattle.writing.proofs.Lengths.{output_most}
 use Rattle.writing.proofs.ReadBack.{read_back}
 use Rattle.writing.proofs.Whole.{enough, too_short}
 use Rattle.present_set.specs.Held.{declarations_in}
 use Rattle.present_set.specs.Present.{Means, Present, present_of}
-use Rattle.present_set.proofs.TableDeclarable.{table-declarable}
+use Rattle.present_set.proofs.TableDeclarable.{table_declarable}
 
 -- THE TABLE'S RATES, WHATEVER ITS WORDS SAY ---------------------------------------------------------------------------
 
 module _ (w : List ℕ) where
-  pub capacities-below : (e : ℕ) → get_or (declarations_in w).capacity e 0 < 4294967296
+  pub capacities_below : (e : ℕ) → get_or (declarations_in w).capacity e 0 < 4294967296
   unfolding declarations_in
-  capacities-below = values_below 0 64 _ 4294967296 (omega arith) (λ e h. omega (arith, capacity_most w e))
+  capacities_below = values_below 0 64 _ 4294967296 (omega arith) (λ e h. omega (arith, capacity_most w e))
 
-  pub accesses-below : (t : ℕ) → get_or (declarations_in w).access t 0 < 4294967296
+  pub accesses_below : (t : ℕ) → get_or (declarations_in w).access t 0 < 4294967296
   unfolding declarations_in
-  accesses-below = values_below 0 32 _ 4294967296 (omega arith) (λ t h. omega (arith, (source_in_range_lem w t).access))
+  accesses_below = values_below 0 32 _ 4294967296 (omega arith) (λ t h. omega (arith, (source_in_range_lem w t).access))
 
-  pub maxima-below : (t : ℕ) → get_or (declarations_in w).maximum t 0 < 4294967296
+  pub maxima_below : (t : ℕ) → get_or (declarations_in w).maximum t 0 < 4294967296
   unfolding declarations_in
-  maxima-below = values_below 0 32 _ 4294967296 (omega arith) (λ t h. omega (arith, (source_in_range_lem w t).maximum))
+  maxima_below = values_below 0 32 _ 4294967296 (omega arith) (λ t h. omega (arith, (source_in_range_lem w t).maximum))
 
 -- 14, THEN 17 ---------------------------------------------------------------------------------------------------------
 
 module _ (w out : List ℕ) where
-  pub bad-table : passes14_of w ≡ false → present_of w out ≡ nothing_written refusal.BadTable out
+  pub bad_table : passes14_of w ≡ false → present_of w out ≡ nothing_written refusal.BadTable out
   unfolding present_of
-  bad-table e = rw e refl
+  bad_table e = rw e refl
 
-  pub good-table : passes14_of w ≡ true → present_of w out ≡ written_of (declarations_in w) out
+  pub good_table : passes14_of w ≡ true → present_of w out ≡ written_of (declarations_in w) out
   unfolding present_of
-  good-table e = rw e refl
+  good_table e = rw e refl
 
 -- WHAT AN ANSWER MEANS ------------------------------------------------------------------------------------------------
 
@@ -78,7 +78,7 @@ module _ (w out : List ℕ) where
     whole : length s ≤ length out → Told (written s out)
     whole h =
         let front : take (length s) (s ++ drop (length s) out) ≡ s = take_at s (drop (length s) out) (length s) refl in
-        let back = read_back d (table-declarable w ok) in
+        let back = read_back d (table_declarable w ok) in
         record {
           passes = ok;
           fits = h;
@@ -93,20 +93,20 @@ module _ (w out : List ℕ) where
     told (inl h) = subst Told (sym (enough d out h)) (whole h)
     told (inr h) = subst Told (sym (too_short d out h)) (short h)
 
-  pub present-means : Means w out (present_of w out).bytes (present_of w out).answer
-  present-means = go (passes14_of w) refl
+  pub present_means : Means w out (present_of w out).bytes (present_of w out).answer
+  present_means = go (passes14_of w) refl
     where
       go : (b : Bool) → passes14_of w ≡ b → Told (present_of w out)
-      go false e = subst Told (sym (bad-table w out e)) (refused e)
-      go true e = subst Told (sym (good-table w out e)) (told (passes_means w e) (order (length s) (length out)))
+      go false e = subst Told (sym (bad_table w out e)) (refused e)
+      go true e = subst Told (sym (good_table w out e)) (told (passes_means w e) (order (length s) (length out)))
 
   -- an answer and a slice that are the call's
-  pub answer-means : (a : Wrote) (after : List ℕ) → a ≡ (present_of w out).answer → after ≡ (present_of w out).bytes → Means w out after a
-  answer-means a after p q =
-      subst (λ (l : List ℕ). Means w out l a) (sym q) (subst (λ (x : Wrote). Means w out (present_of w out).bytes x) (sym p) present-means)
+  pub answer_means : (a : Wrote) (after : List ℕ) → a ≡ (present_of w out).answer → after ≡ (present_of w out).bytes → Means w out after a
+  answer_means a after p q =
+      subst (λ (l : List ℕ). Means w out l a) (sym q) (subst (λ (x : Wrote). Means w out (present_of w out).bytes x) (sym p) present_means)
 
 -- never more than 992 bytes
 pub written_most : (w out after : List ℕ) (a : Wrote) (n : ℕ) → a ≡ wrote.Bytes n → Means w out after a → n ≤ 992
 written_most w out after a n e m =
     let p : Present w out after n = subst (Means w out after) e m in
-    omega (arith, p.count, output-most (declarations_in w))
+    omega (arith, p.count, output_most (declarations_in w))

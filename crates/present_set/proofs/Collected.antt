@@ -35,8 +35,8 @@ module _ (n : ℕ) (f : ℕ → ℕ) where
             ∙ sets_next (replicate n 0) 0 k f;
       }
 
-  pub filled-all : (k : ℕ) (all : List ℕ) → n ≤ k → Filled n f k all → all ≡ values 0 n f
-  filled-all k all h r =
+  pub filled_all : (k : ℕ) (all : List ℕ) → n ≤ k → Filled n f k all → all ≡ values 0 n f
+  filled_all k all h r =
       let whole : k ≡ n = omega (arith, r.most) in
       let long : length (values 0 n f) ≡ n = values_long 0 n f in
       let blank : length (replicate {A = ℕ} n 0) ≡ n = length-replicate n 0 in

@@ -23,8 +23,8 @@ use Rattle.declarations.proofs.DeclaredPaths.{all_declared}
 use Rattle.declarations.proofs.Undeclared.{undeclared_none}
 use Rattle.writing.specs.Sets.{Declarable, SameSet}
 use Rattle.writing.specs.Writing.{path_size, records_of}
-use Rattle.writing.proofs.EqualOutput.{output_same, same-output}
-use Rattle.writing.proofs.OutputBytes.{output-bytes}
+use Rattle.writing.proofs.EqualOutput.{output_same, same_output}
+use Rattle.writing.proofs.OutputBytes.{output_bytes}
 use Rattle.writing.proofs.Paths.{size_is}
 use Rattle.writing.proofs.ReadBack.{read_back}
 use Rattle.handed.specs.Passes.{Passes}
@@ -84,8 +84,8 @@ module _ (w : List ℕ) (ok : Passes w) where
       ∙ lt-ltb 0 _ (ok.declared t h l i))
 
   -- what the table holds can be declared
-  pub table-declarable : Declarable (declarations_in w)
-  table-declarable =
+  pub table_declarable : Declarable (declarations_in w)
+  table_declarable =
       record {
         links = (table_words w).0;
         sessions = (table_words w).1;
@@ -104,8 +104,8 @@ module _ (w : List ℕ) (ok : Passes w) where
       }
 
   -- some input is accepted and declares the table's links and active sessions: the records of what the table holds
-  pub table-written : ((declarations_of (records_of (declarations_in w))).end ≡ end.Finished) × Declares (declarations_of (records_of (declarations_in w))).declared w
-  table-written = let b = read_back d table-declarable in (b.0, again b.1)
+  pub table_written : ((declarations_of (records_of (declarations_in w))).end ≡ end.Finished) × Declares (declarations_of (records_of (declarations_in w))).declared w
+  table_written = let b = read_back d table_declarable in (b.0, again b.1)
     where
       z : Declared
       z = (declarations_of (records_of (declarations_in w))).declared
@@ -127,13 +127,13 @@ module _ (w : List ℕ) (ok : Passes w) where
           capacity e h (inr m) = sym (r.capacity e h m) ∙ (table_declares w).capacity e h
           capacity e h (inl m) =
               let none : ltb 0 (link_of w e).capacity ≡ false = sym (table_links w e h) ∙ out_is d.links e m in
-              undeclared_none (records_of (declarations_in w)) (output-bytes d table-declarable) e (ap (has e) (sym r.links) ∙ m)
+              undeclared_none (records_of (declarations_in w)) (output_bytes d table_declarable) e (ap (has e) (sym r.links) ∙ m)
               ∙ omega (arith, ltb-false 0 (link_of w e).capacity none)
 
 -- 02, §3: two tables have equal output exactly where they hold equal sets
 pub tables_same_output : (w v : List ℕ) → SameSet (declarations_in w) (declarations_in v) → records_of (declarations_in w) ≡ records_of (declarations_in v)
-tables_same_output w v = same-output (declarations_in w) (declarations_in v)
+tables_same_output w v = same_output (declarations_in w) (declarations_in v)
 
 pub tables_output_same : (w v : List ℕ) → Passes w → Passes v → records_of (declarations_in w) ≡ records_of (declarations_in v)
     → SameSet (declarations_in w) (declarations_in v)
-tables_output_same w v a b = output_same (declarations_in w) (declarations_in v) (table-declarable w a) (table-declarable v b)
+tables_output_same w v a b = output_same (declarations_in w) (declarations_in v) (table_declarable w a) (table_declarable v b)

@@ -17,13 +17,13 @@ use Rattle.tasks.specs.Packets.{is_leave}
 use Rattle.reachable.specs.Invariant.{AllFollowed, Inv, PacketOk, Reaches, active_in}
 use Rattle.reachable.proofs.AtLinks.{link_kept}
 use Rattle.reachable.proofs.Deliveries.{packet_at, rest}
-use Rattle.reachable.proofs.EndSteps.{EndAfter, SourceAfter, deliver_either, sent_by_end, sent_by_source, source-did, source_does}
-use Rattle.reachable.proofs.LinesFrame.{inv-packets}
-use Rattle.reachable.proofs.SafeRecords.{end-safe, source-safe}
+use Rattle.reachable.proofs.EndSteps.{EndAfter, SourceAfter, deliver_either, sent_by_end, sent_by_source, source_did, source_does}
+use Rattle.reachable.proofs.LinesFrame.{inv_packets}
+use Rattle.reachable.proofs.SafeRecords.{end_safe, source_safe}
 use Rattle.reachable.proofs.SentPackets.{leave_down, onward_followed}
 use Rattle.reachable.proofs.SourceRules.{destination_done, down_kind, up_kind}
 use Rattle.reachable.proofs.SourceWrites.{active_same}
-use Rattle.reachable.proofs.TakenOut.{followed-after, reaches-after}
+use Rattle.reachable.proofs.TakenOut.{followed_after, reaches_after}
 
 module _ (w : List ℕ) (j : ℕ) (i : Inv w) (h : j < count_of w) (turn : in_turn_of w j ≡ true) where
   abbrev p : Packet
@@ -42,11 +42,11 @@ module _ (w : List ℕ) (j : ℕ) (i : Inv w) (h : j < count_of w) (turn : in_tu
   at_source_kept zero-hop v a =
       let sent = sent_by_source w p in
       let d = source_does w p in
-      let done = source-did w j i.safe h in
-      inv-packets w v i (source-safe w j i.safe h v a) a.places a.paths (active_same a done.active)
-      (λ t m l k u. subst (Reaches t m) (sym a.packets) (reaches-after w j h sent t m (λ f. absurd (no_leave f.leave)) u))
+      let done = source_did w j i.safe h in
+      inv_packets w v i (source_safe w j i.safe h v a) a.places a.paths (active_same a done.active)
+      (λ t m l k u. subst (Reaches t m) (sym a.packets) (reaches_after w j h sent t m (λ f. absurd (no_leave f.leave)) u))
       (subst (AllFollowed (active_in w) _) (sym a.packets)
-      (followed-after w j h i turn sent (λ m t a b. absurd (no_leave t))
+      (followed_after w j h i turn sent (λ m t a b. absurd (no_leave t))
       (λ c f. onward_followed (active_in w) s 0 down_kind d.on c done.on (λ t b. absurd (clash (is_join down_kind) t refl)))))
     where
       no_leave : is_leave p.kind ≡ true → ⊥
@@ -55,12 +55,12 @@ module _ (w : List ℕ) (j : ℕ) (i : Inv w) (h : j < count_of w) (turn : in_tu
   at_destination_kept : hops_of w s < p.hop → (v : List ℕ) → EndAfter w p others v → Inv v
   at_destination_kept far v a =
       let sent = sent_by_end p in
-      inv-packets w v i (end-safe w j i.safe h v far a) a.lines.place a.lines.path (λ t l. ap (λ (z : Source). z.active) (a.lines.source t l))
+      inv_packets w v i (end_safe w j i.safe h v far a) a.lines.place a.lines.path (λ t l. ap (λ (z : Source). z.active) (a.lines.source t l))
       (λ t m l k u.
       subst (Reaches t m) (sym a.packets)
-      (reaches-after w j h sent t m (λ f. absurd (omega (arith, far, k, f.hop, ap (hops_of w) f.session))) u))
+      (reaches_after w j h sent t m (λ f. absurd (omega (arith, far, k, f.hop, ap (hops_of w) f.session))) u))
       (subst (AllFollowed (active_in w) _) (sym a.packets)
-      (followed-after w j h i turn sent (λ m t a b. absurd (omega (arith, far, a, b)))
+      (followed_after w j h i turn sent (λ m t a b. absurd (omega (arith, far, a, b)))
       (λ c f.
       onward_followed (active_in w) s p.hop up_kind (destination_step_of p.kind) c (destination_done p.kind ok.within.kind)
       (λ t b. absurd (clash (is_join up_kind) t refl)))))

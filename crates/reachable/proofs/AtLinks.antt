@@ -20,12 +20,12 @@ use Rattle.reachable.specs.Invariant.{AllFollowed, EntryOk, Inv, LeaveFor, Reach
 use Rattle.reachable.proofs.Deliveries.{rest}
 use Rattle.reachable.proofs.Follows.{followed_same}
 use Rattle.reachable.proofs.Kept.{entry_kept, one_or_other, same_hop}
-use Rattle.reachable.proofs.LinkSteps.{LinkAfter, burst_up, burst_sessions, hop-here, link-below, link-did, link_at, link_does, sent_by_link}
+use Rattle.reachable.proofs.LinkSteps.{LinkAfter, burst_up, burst_sessions, hop_here, link_below, link_did, link_at, link_does, sent_by_link}
 use Rattle.reachable.proofs.PacketLists.{every_map, some_left, some_right}
-use Rattle.reachable.proofs.SafeRecords.{link-safe}
+use Rattle.reachable.proofs.SafeRecords.{link_safe}
 use Rattle.reachable.proofs.Sends.{burst_to, onward_to}
 use Rattle.reachable.proofs.SentPackets.{burst_followed, onward_followed, onward_leave}
-use Rattle.reachable.proofs.TakenOut.{followed-after, join-followed-by, reaches-after}
+use Rattle.reachable.proofs.TakenOut.{followed_after, join_followed_by, reaches_after}
 
 -- packet p of place j reaches link e
 module _ (w : List ℕ) (j : ℕ) (i : Inv w) (h : j < count_of w) (turn : in_turn_of w j ≡ true)
@@ -44,10 +44,10 @@ module _ (w : List ℕ) (j : ℕ) (i : Inv w) (h : j < count_of w) (turn : in_tu
   sent = sent_by_link w p
 
   did : LinkDid p.session p.kind (place_of w e) d
-  did = link-did w j i.safe h low high
+  did = link_did w j i.safe h low high
 
   at : hop_of w p.session e ≡ p.hop
-  at = hop-here w j i.safe h low high
+  at = hop_here w j i.safe h low high
 
   active : (s : ℕ) → s < 32 → active_in v s ≡ active_in w s
   active s l = ap (λ (z : Source). z.active) (a.sources s l)
@@ -63,7 +63,7 @@ module _ (w : List ℕ) (j : ℕ) (i : Inv w) (h : j < count_of w) (turn : in_tu
   entry_stays : (f s : ℕ) → s < 32 → EntryOk w f s → (LeaveFor s (hop_of w s f) p → Reaches s (hop_of w s f) sent) → EntryOk v f s
   entry_stays f s l o m =
       entry_kept w v f s (a.paths s l) o.on_path
-      (λ t. subst (Reaches s (hop_of w s f)) (sym a.packets) (reaches-after w j h sent s (hop_of w s f) m (o.live (sym (active s l) ∙ t))))
+      (λ t. subst (Reaches s (hop_of w s f)) (sym a.packets) (reaches_after w j h sent s (hop_of w s f) m (o.live (sym (active s l) ∙ t))))
 
   -- at another link its hop is not the packet's
   entry_other : (f s : ℕ) → s < 32 → (f ≡ e → ⊥) → EntryOk w f s → EntryOk v f s
@@ -84,7 +84,7 @@ module _ (w : List ℕ) (j : ℕ) (i : Inv w) (h : j < count_of w) (turn : in_tu
       entry_kept w v e p.session (a.paths p.session l) (omega (arith, at, low))
       (λ n.
       subst (λ (m : ℕ). Reaches p.session m (packets_of v)) (sym at)
-      (subst (Reaches p.session p.hop) (sym a.packets) (some_left (rest w j) sent (join-followed-by w j h i t (sym (active p.session l) ∙ n)))))
+      (subst (Reaches p.session p.hop) (sym a.packets) (some_left (rest w j) sent (join_followed_by w j h i t (sym (active p.session l) ∙ n)))))
 
   -- at this link it was there, or the Join made it
   entry_here : (s : ℕ) → s < 32 → Held d.place s → EntryOk v e s
@@ -92,7 +92,7 @@ module _ (w : List ℕ) (j : ℕ) (i : Inv w) (h : j < count_of w) (turn : in_tu
     where
       go : Held (place_of w e) s ⊎ ((s ≡ p.session) × (is_join p.kind ≡ true)) → EntryOk v e s
       go (inl g) =
-          entry_stays e s l (i.entry e s (link-below w j i.safe h low high) l g)
+          entry_stays e s l (i.entry e s (link_below w j i.safe h low high) l g)
           (λ f. absurd (did.gone f.leave (subst (Held d.place) (sym f.session) u)))
       go (inr g) = subst (EntryOk v e) (sym g.0) (entry_made g.1 (subst (λ (x : ℕ). x < 32) g.0 l))
 
@@ -106,16 +106,16 @@ module _ (w : List ℕ) (j : ℕ) (i : Inv w) (h : j < count_of w) (turn : in_tu
 
   joins_after : AllFollowed (active_in w) [] (rest w j ++ sent)
   joins_after =
-      followed-after w j h i turn sent (λ n t m b. leave_on n t m)
+      followed_after w j h i turn sent (λ n t m b. leave_on n t m)
       (λ c u.
       burst_followed (active_in w) w e (burst_kind d.burst) (burst_sessions w p) c (onward_to p.session p.hop d.on) (burst_up d.burst)
       (λ b g.
       onward_followed (active_in w) p.session p.hop p.kind d.on b did.on
-      (λ t n. g p.session p.hop (u p.session p.hop (join-followed-by w j h i t n)))))
+      (λ t n. g p.session p.hop (u p.session p.hop (join_followed_by w j h i t n)))))
 
   pub link_kept : Inv v
   link_kept =
-      let safe = link-safe w j i.safe h v low high fine a in
+      let safe = link_safe w j i.safe h v low high fine a in
       record {
         safe = safe;
         entry = entry_after;

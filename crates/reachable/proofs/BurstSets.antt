@@ -15,7 +15,7 @@ use Rattle.fractions.proofs.Cases.{cases}
 use Rattle.sessions.specs.Set.{cons_if, has, members, members_from, put, size_of}
 use Rattle.sessions.proofs.Counts.{ones_in_lem}
 use Rattle.sessions.proofs.Members.{has_put_other, has_zero, put_lt}
-use Rattle.sessions.proofs.Walks.{members_length, members_put, walk-cong, walk-keeps}
+use Rattle.sessions.proofs.Walks.{members_length, members_put, walk_cong, walk_keeps}
 use Rattle.reachable.proofs.Kept.{hop_on}
 use Rattle.reachable.proofs.Sends.{Each, Sessions, more, nobody}
 use Rattle.reachable.proofs.SentPackets.{Crosses, Crossing}
@@ -60,7 +60,7 @@ picked_next w e a j l o =
 picked : (w : List ℕ) (e to : ℕ) → Picked w e (on_path_of w e to)
 unfolding on_path_of
 picked w e to =
-    walk-keeps (Picked w e) (add_on_path w e) 32 to (picked_next w e) 0
+    walk_keeps (Picked w e) (add_on_path w e) 32 to (picked_next w e) 0
     (record { small = omega arith; on = λ r h z. absurd (omega (arith, h, has_zero r)) })
 
 pub on_path_count : (w : List ℕ) (e to : ℕ) → length (members (on_path_of w e to)) ≡ size_of (on_path_of w e to)
@@ -77,6 +77,6 @@ on_path_crosses w e to = each_member (Crosses w e) (on_path_of w e to) (λ r l h
 pub on_path_all : (w : List ℕ) (e to : ℕ) → to < 2 ^ 32 → ((r : ℕ) → r < 32 → has r to ≡ 1 → 0 < hop_of w r e) → on_path_of w e to ≡ to
 unfolding on_path_of
 on_path_all w e to few on =
-    walk-cong (add_on_path w e) (λ a r. put r a) 32 to
+    walk_cong (add_on_path w e) (λ a r. put r a) 32 to
     (λ r l h a. ap (λ (b : Bool). cond b a (put r a)) (ne_eqb (hop_of w r e) 0 (λ q. omega (arith, q, on r l h)))) 0
     ∙ members_put 32 to few

@@ -19,7 +19,7 @@ use Rattle.reachable.specs.Invariant.{Safe}
 use Rattle.reachable.specs.Reachable.{Reachable}
 use Rattle.reachable.proofs.BurstSets.{on_path_all}
 use Rattle.reachable.proofs.EveryRecord.{reachable_inv}
-use Rattle.reachable.proofs.LinkSteps.{hop-here, link-below, link-did, link_at, link_does}
+use Rattle.reachable.proofs.LinkSteps.{hop_here, link_below, link_did, link_at, link_does}
 use Rattle.reachable.proofs.PassesSafe.{passes_safe}
 use Rattle.reachable.proofs.ReachablePasses.{reachable_passes}
 
@@ -36,16 +36,16 @@ module _ (w : List ℕ) (n : length w ≡ 9153) (o : Passes w) (j : ℕ) (h : j 
   safe = passes_safe w n o
 
   did : LinkDid p.session p.kind (place_of w e) (link_does w p)
-  did = link-did w j safe h low high
+  did = link_did w j safe h low high
 
   -- a session that the link holds after the step it held before, or it is the one that joins here
   held_on_path : (r : ℕ) → r < 32 → Held (place_of w e) r ⊎ ((r ≡ p.session) × (is_join p.kind ≡ true)) → 0 < hop_of w r e
-  held_on_path r l (inl g) = o.on_path e r (link-below w j safe h low high) l (held_holds (place_of w e) r g)
-  held_on_path r l (inr g) = omega (arith, low, ap (λ (x : ℕ). hop_of w x e) g.0, hop-here w j safe h low high)
+  held_on_path r l (inl g) = o.on_path e r (link_below w j safe h low high) l (held_holds (place_of w e) r g)
+  held_on_path r l (inr g) = omega (arith, low, ap (λ (x : ℕ). hop_of w x e) g.0, hop_here w j safe h low high)
 
-  pub passes-burst-on-path : on_path_of w e (link_does w p).to ≡ (link_does w p).to
-  passes-burst-on-path = on_path_all w e (link_does w p).to did.few (λ r l t. held_on_path r l (did.held r (did.to r t)))
+  pub passes_burst_on_path : on_path_of w e (link_does w p).to ≡ (link_does w p).to
+  passes_burst_on_path = on_path_all w e (link_does w p).to did.few (λ r l t. held_on_path r l (did.held r (did.to r t)))
 
 pub burst_on_path : (w : List ℕ) → Reachable w → (j : ℕ) → j < count_of w → 0 < (packet_of w j).hop → (packet_of w j).hop ≤ hops_of w (packet_of w j).session
     → on_path_of w (link_at w (packet_of w j)) (link_does w (packet_of w j)).to ≡ (link_does w (packet_of w j)).to
-burst_on_path w r j h low high = passes-burst-on-path w (reachable_inv w r).safe.fits.long (reachable_passes w r) j h low high
+burst_on_path w r j h low high = passes_burst_on_path w (reachable_inv w r).safe.fits.long (reachable_passes w r) j h low high

@@ -43,27 +43,27 @@ cycle_none s r k t = rw t
 -- LISTS ---------------------------------------------------------------------------------------------------------------
 
 module _ (s : ℕ) where
-  pub cycles-append : (xs ys : List Packet) → cycles_of s (xs ++ ys) ≡ cycles_of s xs + cycles_of s ys
+  pub cycles_append : (xs ys : List Packet) → cycles_of s (xs ++ ys) ≡ cycles_of s xs + cycles_of s ys
   unfolding cycles_of
-  cycles-append [] ys = omega arith
-  cycles-append (q ∷ xs) ys = omega (arith, cycles-append xs ys)
+  cycles_append [] ys = omega arith
+  cycles_append (q ∷ xs) ys = omega (arith, cycles_append xs ys)
 
   -- p, and the others
-  pub cycles-parted : (xs : List Packet) (p : Packet) (ys : List Packet)
+  pub cycles_parted : (xs : List Packet) (p : Packet) (ys : List Packet)
       → cycles_of s (xs ++ p ∷ ys) ≡ cycle_of s p.session p.kind + cycles_of s (xs ++ ys)
   unfolding cycles_of
-  cycles-parted [] p ys = refl
-  cycles-parted (q ∷ xs) p ys = omega (arith, cycles-parted xs p ys)
+  cycles_parted [] p ys = refl
+  cycles_parted (q ∷ xs) p ys = omega (arith, cycles_parted xs p ys)
 
-  pub no-cycles : (l : List Packet) → Every (λ q. q.session ≡ s → ⊥) l → cycles_of s l ≡ 0
+  pub no_cycles : (l : List Packet) → Every (λ q. q.session ≡ s → ⊥) l → cycles_of s l ≡ 0
   unfolding cycles_of
-  no-cycles [] none = refl
-  no-cycles (q ∷ l) (also n u) = omega (arith, cycle_other s q.session q.kind n, no-cycles l u)
+  no_cycles [] none = refl
+  no_cycles (q ∷ l) (also n u) = omega (arith, cycle_other s q.session q.kind n, no_cycles l u)
 
-  pub burst-cycles : (w : List ℕ) (e : ℕ) (k : Kind) (l : List ℕ) → in_cycle k ≡ false → cycles_of s (burst_to w e k l) ≡ 0
+  pub burst_cycles : (w : List ℕ) (e : ℕ) (k : Kind) (l : List ℕ) → in_cycle k ≡ false → cycles_of s (burst_to w e k l) ≡ 0
   unfolding burst_to cycles_of
-  burst-cycles w e k [] t = refl
-  burst-cycles w e k (r ∷ l) t = omega (arith, cycle_none s r k t, burst-cycles w e k l t)
+  burst_cycles w e k [] t = refl
+  burst_cycles w e k (r ∷ l) t = omega (arith, cycle_none s r k t, burst_cycles w e k l t)
 
 -- each packet of a probe cycle counts
 pub counted : (l : List Packet) → Every (λ q. in_cycle q.kind ≡ true → 0 < cycles_of q.session l) l
@@ -76,26 +76,26 @@ counted (q ∷ l) =
 -- WHAT GOES ON --------------------------------------------------------------------------------------------------------
 
 module _ (s r h : ℕ) where
-  pub onward-most : (o : Onward) → cycles_of s (onward_to r h o) ≤ 1
+  pub onward_most : (o : Onward) → cycles_of s (onward_to r h o) ≤ 1
   unfolding cycles_of
-  onward-most onward.Nothing = omega arith
-  onward-most (onward.Send j) = omega (arith, cycle_most s r j)
+  onward_most onward.Nothing = omega arith
+  onward_most (onward.Send j) = omega (arith, cycle_most s r j)
 
-  pub onward-other : (o : Onward) → (r ≡ s → ⊥) → cycles_of s (onward_to r h o) ≡ 0
+  pub onward_other : (o : Onward) → (r ≡ s → ⊥) → cycles_of s (onward_to r h o) ≡ 0
   unfolding cycles_of
-  onward-other onward.Nothing n = refl
-  onward-other (onward.Send j) n = omega (arith, cycle_other s r j n)
+  onward_other onward.Nothing n = refl
+  onward_other (onward.Send j) n = omega (arith, cycle_other s r j n)
 
-  pub onward-none : (o : Onward) → sends_cycle o ≡ false → cycles_of s (onward_to r h o) ≡ 0
+  pub onward_none : (o : Onward) → sends_cycle o ≡ false → cycles_of s (onward_to r h o) ≡ 0
   unfolding cycles_of
-  onward-none onward.Nothing t = refl
-  onward-none (onward.Send j) t = omega (arith, cycle_none s r j t)
+  onward_none onward.Nothing t = refl
+  onward_none (onward.Send j) t = omega (arith, cycle_none s r j t)
 
   -- in place of a packet of kind k
-  pub onward-for : (k : Kind) (o : Onward) → (sends_cycle o ≡ true → in_cycle k ≡ true) → cycles_of s (onward_to r h o) ≤ cycle_of s r k
+  pub onward_for : (k : Kind) (o : Onward) → (sends_cycle o ≡ true → in_cycle k ≡ true) → cycles_of s (onward_to r h o) ≤ cycle_of s r k
   unfolding cycles_of
-  onward-for k onward.Nothing f = omega arith
-  onward-for k (onward.Send j) f = go (in_cycle j) refl
+  onward_for k onward.Nothing f = omega arith
+  onward_for k (onward.Send j) f = go (in_cycle j) refl
     where
       go : (b : Bool) → in_cycle j ≡ b → cycle_of s r j + 0 ≤ cycle_of s r k
       go true t = rw (t, f t) (omega arith)

@@ -19,9 +19,9 @@ use Rattle.tasks.specs.declared.Packet.{Packet}
 use Rattle.tasks.specs.Packets.{goes_down}
 use Rattle.reachable.specs.Cycle.{Awaited, Cycle, cycles_of, front_of}
 use Rattle.reachable.specs.Invariant.{Every, PacketOk}
-use Rattle.reachable.proofs.CycleCounts.{counted, cycles-append}
-use Rattle.reachable.proofs.Kept.{hop-same}
-use Rattle.reachable.proofs.PacketLists.{every_append, every-both, every_map}
+use Rattle.reachable.proofs.CycleCounts.{counted, cycles_append}
+use Rattle.reachable.proofs.Kept.{hop_same}
+use Rattle.reachable.proofs.PacketLists.{every_append, every_both, every_map}
 
 -- ONE PACKET ----------------------------------------------------------------------------------------------------------
 
@@ -77,8 +77,8 @@ same_stays w v s e q h = (subst (λ (x : Place). Held x s) q h, λ a. subst (λ 
 
 awaited_kept : (w v : List ℕ) (q : Packet) → path_of v q.session ≡ path_of w q.session → Stays w v q.session → Awaited w q → Awaited v q
 awaited_kept w v q same stays a = record {
-  new = λ j e l h. omega (arith, hop-same w v q.session same e, a.new j e l (stays e l h).0);
-  waits = λ c e l h n. let u = stays e l h in u.1 (a.waits c e l u.0 (omega (arith, hop-same w v q.session same e, n)));
+  new = λ j e l h. omega (arith, hop_same w v q.session same e, a.new j e l (stays e l h).0);
+  waits = λ c e l h n. let u = stays e l h in u.1 (a.waits c e l u.0 (omega (arith, hop_same w v q.session same e, n)));
 }
 
 -- v has the packets `rest` of w, and behind them `sent`
@@ -87,22 +87,22 @@ module _ (w v : List ℕ) (rest sent : List Packet) (packets : packets_of v ≡ 
   rest_awaited : Every (Awaited v) rest
   rest_awaited =
       every_map rest (λ q u. go q u.0.within.session u.1.0 u.1.1 (in_cycle q.kind) refl)
-      (every-both rest ok (every-both rest awaited (counted rest)))
+      (every_both rest ok (every_both rest awaited (counted rest)))
     where
       go : (q : Packet) → q.session < 32 → Awaited w q → (in_cycle q.kind ≡ true → 0 < cycles_of q.session rest)
           → (b : Bool) → in_cycle q.kind ≡ b → Awaited v q
       go q l a f true t = let u = stays q.session l (f t) in awaited_kept w v q u.0 u.1 a
       go q l a f false t = not_awaited v q t
 
-  pub cycle-after : ((s : ℕ) → s < 32 → cycles_of s rest + cycles_of s sent ≤ 1)
+  pub cycle_after : ((s : ℕ) → s < 32 → cycles_of s rest + cycles_of s sent ≤ 1)
       → ((s : ℕ) → s < 32 → is_idle (source_of v s).mu ≡ true → cycles_of s rest + cycles_of s sent ≡ 0)
       → Every (Awaited v) sent
       → Cycle v
-  cycle-after one idle new = record {
+  cycle_after one idle new = record {
     one = λ s l. omega (arith, one s l, total s);
     idle = λ s l t. total s ∙ idle s l t;
     awaited = subst (Every (Awaited v)) (sym packets) (every_append rest sent rest_awaited new);
   }
     where
       total : (s : ℕ) → cycles_of s (packets_of v) ≡ cycles_of s rest + cycles_of s sent
-      total s = subst (λ (l : List Packet). cycles_of s l ≡ cycles_of s rest + cycles_of s sent) (sym packets) (cycles-append s rest sent)
+      total s = subst (λ (l : List Packet). cycles_of s l ≡ cycles_of s rest + cycles_of s sent) (sym packets) (cycles_append s rest sent)

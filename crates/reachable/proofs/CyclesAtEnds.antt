@@ -19,14 +19,14 @@ use Rattle.tasks.specs.declared.Onward.TheVariants as onward
 use Rattle.tasks.specs.declared.Packet.{Packet}
 use Rattle.reachable.specs.Cycle.{Awaited, Cycle}
 use Rattle.reachable.specs.Invariant.{Every, Inv, PacketOk, also, none}
-use Rattle.reachable.proofs.CycleCounts.{onward-for}
+use Rattle.reachable.proofs.CycleCounts.{onward_for}
 use Rattle.reachable.proofs.CycleFrame.{front_up, hop_front, response_in_cycle, same_stays}
-use Rattle.reachable.proofs.CyclesAtLinks.{link-cycle}
-use Rattle.reachable.proofs.CyclesAtSources.{source-keeps-cycle}
-use Rattle.reachable.proofs.CyclesMoved.{alone, left-awaited, left-fewer, moved-cycle, taken-awaited}
+use Rattle.reachable.proofs.CyclesAtLinks.{link_cycle}
+use Rattle.reachable.proofs.CyclesAtSources.{source_keeps_cycle}
+use Rattle.reachable.proofs.CyclesMoved.{alone, left_awaited, left_fewer, moved_cycle, taken_awaited}
 use Rattle.reachable.proofs.Deliveries.{packet_at, rest, rest_ok}
 use Rattle.reachable.proofs.EndSteps.{EndAfter, SourceAfter, deliver_either, sent_by_end, source_does}
-use Rattle.reachable.proofs.Kept.{hop-same}
+use Rattle.reachable.proofs.Kept.{hop_same}
 use Rattle.reachable.proofs.Sends.{onward_to}
 use Rattle.reachable.proofs.SourceCycles.{destination_for_cycle, source_cycle}
 use Rattle.reachable.proofs.SourceRules.{destination_done, up_kind}
@@ -49,8 +49,8 @@ module _ (w : List ℕ) (j : ℕ) (i : Inv w) (c : Cycle w) (h : j < count_of w)
 
   at_source_cycle : SourceAfter w p others v → Cycle v
   at_source_cycle a =
-      source-keeps-cycle w i c s ls p.kind (source_does w p) (source_cycle p.kind (source_of w s)) others v a (rest_ok w j i.safe h)
-      (left-awaited w j i.safe c h) (left-fewer w j i.safe c h) (λ t. alone w j i.safe c h ls (response_in_cycle p.kind t))
+      source_keeps_cycle w i c s ls p.kind (source_does w p) (source_cycle p.kind (source_of w s)) others v a (rest_ok w j i.safe h)
+      (left_awaited w j i.safe c h) (left_fewer w j i.safe c h) (λ t. alone w j i.safe c h ls (response_in_cycle p.kind t))
 
   -- what the destination sends goes up, and all links that were behind p still are behind it
   module _ (far : hops_of w s < p.hop) (a : EndAfter w p others v) where
@@ -62,17 +62,17 @@ module _ (w : List ℕ) (j : ℕ) (i : Inv w) (c : Cycle w) (h : j < count_of w)
           new = λ t. absurd (clash (is_join k) t on.join);
           waits = λ t e l u n.
               subst (λ (x : Place). Waiting x s) (sym (a.lines.place e l))
-              ((taken-awaited w j i.safe c h).waits (for t) e l (subst (λ (x : Place). Held x s) (a.lines.place e l) u)
-              (omega (arith, n, front_up s p.hop k on.way (omega (arith, far)), hop-same w v s (a.lines.path s ls) e, hop_front p)));
+              ((taken_awaited w j i.safe c h).waits (for t) e l (subst (λ (x : Place). Held x s) (a.lines.place e l) u)
+              (omega (arith, n, front_up s p.hop k on.way (omega (arith, far)), hop_same w v s (a.lines.path s ls) e, hop_front p)));
         })
         none
 
     at_destination_cycle : Cycle v
     at_destination_cycle =
         let o = destination_step_of p.kind in
-        moved-cycle w j i.safe c h v (sent_by_end p) a.packets a.lines.source
+        moved_cycle w j i.safe c h v (sent_by_end p) a.packets a.lines.source
         (λ r l n. (a.lines.path r l, λ e m u. same_stays w v r e (a.lines.place e m) u))
-        (λ r. onward-for r s p.hop p.kind o (destination_for_cycle p.kind))
+        (λ r. onward_for r s p.hop p.kind o (destination_for_cycle p.kind))
         (end_awaited o (destination_done p.kind ok.within.kind) (destination_for_cycle p.kind))
 
 pub deliver_cycle : (w : List ℕ) (j : ℕ) → Inv w → Cycle w → Cycle (deliver_of w j).words
@@ -81,5 +81,5 @@ deliver_cycle w j i c =
     (λ h turn. record {
       at_source = λ zero-hop v a. at_source_cycle w j i c h v a;
       at_destination = λ far v a. at_destination_cycle w j i c h v far a;
-      at_link = λ low high v fine a. link-cycle w j i.safe c h low high v a;
+      at_link = λ low high v fine a. link_cycle w j i.safe c h low high v a;
     })

@@ -25,12 +25,12 @@ use Rattle.tasks.specs.declared.Packet.{Packet}
 use Rattle.tasks.specs.Packets.{goes_down}
 use Rattle.reachable.specs.Cycle.{Awaited, Cycle, cycles_of, front_of}
 use Rattle.reachable.specs.Invariant.{Every, Safe, also, none}
-use Rattle.reachable.proofs.CycleCounts.{burst-cycles, cycles-append, onward-for}
+use Rattle.reachable.proofs.CycleCounts.{burst_cycles, cycles_append, onward_for}
 use Rattle.reachable.proofs.CycleFrame.{Stays, front_down, front_up, hop_front, join_in_cycle, not_awaited, response_in_cycle, same_stays}
-use Rattle.reachable.proofs.CyclesMoved.{alone, moved-cycle, taken-awaited}
+use Rattle.reachable.proofs.CyclesMoved.{alone, moved_cycle, taken_awaited}
 use Rattle.reachable.proofs.Deliveries.{packet_at, rest}
-use Rattle.reachable.proofs.Kept.{hop-same, one_or_other, same_hop}
-use Rattle.reachable.proofs.LinkSteps.{LinkAfter, burst_sessions, hop-here, link-below, link-did, link_at, link_does, sent_by_link}
+use Rattle.reachable.proofs.Kept.{hop_same, one_or_other, same_hop}
+use Rattle.reachable.proofs.LinkSteps.{LinkAfter, burst_sessions, hop_here, link_below, link_did, link_at, link_does, sent_by_link}
 use Rattle.reachable.proofs.PacketLists.{every_append}
 use Rattle.reachable.proofs.Sends.{burst_to, onward_to}
 use Rattle.reachable.proofs.SentPackets.{join_down}
@@ -64,10 +64,10 @@ module _ (w : List ℕ) (j : ℕ) (i : Safe w) (c : Cycle w) (h : j < count_of w
   ls = (packet_at w j i h).within.session
 
   e64 : e < 64
-  e64 = link-below w j i h low high
+  e64 = link_below w j i h low high
 
   at : hop_of w s e ≡ p.hop
-  at = hop-here w j i h low high
+  at = hop_here w j i h low high
 
   abbrev others : List Packet
   others = rest w j
@@ -83,7 +83,7 @@ module _ (w : List ℕ) (j : ℕ) (i : Safe w) (c : Cycle w) (h : j < count_of w
     apart q t = omega (arith, n, ap (λ (x : ℕ). cycles_of x others) q, alone w j i c h ls t)
 
     was_held : Held d.place r → Held (place_of w e) r
-    was_held u = go ((link-did w j i h low high).held r u)
+    was_held u = go ((link_did w j i h low high).held r u)
       where
         go : Held (place_of w e) r ⊎ ((r ≡ s) × (is_join p.kind ≡ true)) → Held (place_of w e) r
         go (inl g) = g
@@ -107,7 +107,7 @@ module _ (w : List ℕ) (j : ℕ) (i : Safe w) (c : Cycle w) (h : j < count_of w
   -- THE PACKET THAT GOES ON ---------------------------------------------------------------------------------------------
 
   same : (f : ℕ) → hop_of v s f ≡ hop_of w s f
-  same f = hop-same w v s (a.paths s ls) f
+  same f = hop_same w v s (a.paths s ls) f
 
   -- at the other links nothing has changed
   module _ (f : ℕ) (l : f < 64) (m : f ≡ e → ⊥) (u : Held (place_of v f) s) where
@@ -117,7 +117,7 @@ module _ (w : List ℕ) (j : ℕ) (i : Safe w) (c : Cycle w) (h : j < count_of w
     other_waits : in_cycle p.kind ≡ true → hop_of v s f ≤ p.hop → Waiting (place_of v f) s
     other_waits t n =
         subst (λ (x : Place). Waiting x s) (sym (a.elsewhere f l m))
-        ((taken-awaited w j i c h).waits t f l was (before (ℕ_discrete (hop_of w s f) p.hop)))
+        ((taken_awaited w j i c h).waits t f l was (before (ℕ_discrete (hop_of w s f) p.hop)))
       where
         before : Dec (hop_of w s f ≡ p.hop) → hop_of w s f < front_of p
         before (yes q) = absurd (m (same_hop w s e f (omega (arith, at, low)) (q ∙ sym at)))
@@ -134,7 +134,7 @@ module _ (w : List ℕ) (j : ℕ) (i : Safe w) (c : Cycle w) (h : j < count_of w
       where
         go : Dec (f ≡ e) → hop_of v s f < p.hop + 1
         go (yes x) = omega (arith, same f, ap (hop_of w s) x, at)
-        go (no m) = omega (arith, same f, (taken-awaited w j i c h).new (sym on.join ∙ t) f l (was f l m u))
+        go (no m) = omega (arith, same f, (taken_awaited w j i c h).new (sym on.join ∙ t) f l (was f l m u))
 
     on_waits : in_cycle k ≡ true → (b : Bool) → goes_down k ≡ b → (f : ℕ) → f < 64 → Held (place_of v f) s → hop_of v s f < front_of q → Dec (f ≡ e)
         → Waiting (place_of v f) s
@@ -156,18 +156,18 @@ module _ (w : List ℕ) (j : ℕ) (i : Safe w) (c : Cycle w) (h : j < count_of w
   for_cycle : sends_cycle d.on ≡ true → in_cycle p.kind ≡ true
   for_cycle t = sends_for_cycle e s p.kind (place_of w e) t
 
-  pub link-cycle : Cycle v
-  link-cycle =
+  pub link_cycle : Cycle v
+  link_cycle =
       let b = burst_kind d.burst in
       let o = burst_other d.burst in
-      moved-cycle w j i c h v (sent_by_link w p) a.packets a.sources (λ r l n. (a.paths r l, stays r n))
+      moved_cycle w j i c h v (sent_by_link w p) a.packets a.sources (λ r l n. (a.paths r l, stays r n))
       (λ r.
       omega (
         arith,
-        cycles-append r (burst_to w e b (burst_sessions w p)) (onward_to s p.hop d.on),
-        burst-cycles r w e b (burst_sessions w p) o,
-        onward-for r s p.hop p.kind d.on for_cycle,
+        cycles_append r (burst_to w e b (burst_sessions w p)) (onward_to s p.hop d.on),
+        burst_cycles r w e b (burst_sessions w p) o,
+        onward_for r s p.hop p.kind d.on for_cycle,
       ))
       (every_append (burst_to w e b (burst_sessions w p)) _ (burst_awaited v w e b (burst_sessions w p) o)
-      (onward_awaited d.on (link-did w j i h low high).on for_cycle
+      (onward_awaited d.on (link_did w j i h low high).on for_cycle
       (λ t g. waits_where_sent e s p.kind (place_of w e) ls (i.place e e64) t g)))

@@ -24,9 +24,9 @@ use Rattle.tasks.specs.declared.Packet.{Packet}
 use Rattle.tasks.specs.Packets.{goes_down}
 use Rattle.reachable.specs.Cycle.{Awaited, Cycle, cycles_of, front_of}
 use Rattle.reachable.specs.Invariant.{Every, Inv, PacketOk, also, none}
-use Rattle.reachable.proofs.CycleCounts.{onward-most, onward-none, onward-other}
-use Rattle.reachable.proofs.CycleFrame.{cycle-after, join_in_cycle, same_stays}
-use Rattle.reachable.proofs.Kept.{hop-same}
+use Rattle.reachable.proofs.CycleCounts.{onward_most, onward_none, onward_other}
+use Rattle.reachable.proofs.CycleFrame.{cycle_after, join_in_cycle, same_stays}
+use Rattle.reachable.proofs.Kept.{hop_same}
 use Rattle.reachable.proofs.Sends.{onward_to}
 use Rattle.reachable.proofs.SourceCycles.{SourceCycle, answered, asks, sends_join, stays}
 use Rattle.reachable.proofs.SourceWrites.{Written}
@@ -57,28 +57,28 @@ module _ (w : List ℕ) (i : Inv w) (c : Cycle w) (s : ℕ) (ls : s < 32) (k : K
   -- OF ITS OWN SESSION --------------------------------------------------------------------------------------------------
 
   own_one : SourceCycle k (source_of w s) d → cycles_of s others + cycles_of s sent ≤ 1
-  own_one (stays m n) = omega (arith, fewer s, c.one s ls, onward-none s s 0 d.on n)
-  own_one (asks m n (inl t)) = omega (arith, none_left t, onward-most s s 0 d.on)
-  own_one (asks m n (inr t)) = omega (arith, gone t, onward-most s s 0 d.on)
-  own_one (answered t n) = omega (arith, gone t, onward-none s s 0 d.on n)
+  own_one (stays m n) = omega (arith, fewer s, c.one s ls, onward_none s s 0 d.on n)
+  own_one (asks m n (inl t)) = omega (arith, none_left t, onward_most s s 0 d.on)
+  own_one (asks m n (inr t)) = omega (arith, gone t, onward_most s s 0 d.on)
+  own_one (answered t n) = omega (arith, gone t, onward_none s s 0 d.on n)
 
   own_idle : SourceCycle k (source_of w s) d → is_idle d.source.mu ≡ true → cycles_of s others + cycles_of s sent ≡ 0
-  own_idle (stays m n) t = omega (arith, none_left (ap is_idle (sym m) ∙ t), onward-none s s 0 d.on n)
+  own_idle (stays m n) t = omega (arith, none_left (ap is_idle (sym m) ∙ t), onward_none s s 0 d.on n)
   own_idle (asks m n u) t = absurd (clash (is_idle d.source.mu) t m)
-  own_idle (answered u n) t = omega (arith, gone u, onward-none s s 0 d.on n)
+  own_idle (answered u n) t = omega (arith, gone u, onward_none s s 0 d.on n)
 
   -- OF EVERY SESSION ----------------------------------------------------------------------------------------------------
 
   one : (r : ℕ) → r < 32 → Dec (s ≡ r) → cycles_of r others + cycles_of r sent ≤ 1
   one r l (yes q) = subst (λ (x : ℕ). cycles_of x others + cycles_of x sent ≤ 1) q (own_one did)
-  one r l (no n) = omega (arith, fewer r, c.one r l, onward-other r s 0 d.on n)
+  one r l (no n) = omega (arith, fewer r, c.one r l, onward_other r s 0 d.on n)
 
   idle : (r : ℕ) → r < 32 → Dec (s ≡ r) → is_idle (source_of v r).mu ≡ true → cycles_of r others + cycles_of r sent ≡ 0
   idle r l (yes q) t =
       subst (λ (x : ℕ). cycles_of x others + cycles_of x sent ≡ 0) q
       (own_idle did (ap (λ (z : Source). is_idle z.mu) (sym a.source) ∙ ap (λ (x : ℕ). is_idle (source_of v x).mu) q ∙ t))
   idle r l (no n) t =
-      omega (arith, fewer r, c.idle r l (ap (λ (z : Source). is_idle z.mu) (sym (a.others r l (λ q. n (sym q)))) ∙ t), onward-other r s 0 d.on n)
+      omega (arith, fewer r, c.idle r l (ap (λ (z : Source). is_idle z.mu) (sym (a.others r l (λ q. n (sym q)))) ∙ t), onward_other r s 0 d.on n)
 
   -- WHAT IT SENDS -------------------------------------------------------------------------------------------------------
 
@@ -99,15 +99,15 @@ module _ (w : List ℕ) (i : Inv w) (c : Cycle w) (s : ℕ) (ls : s < 32) (k : K
               arith,
               m,
               front_source s j,
-              hop-same w v s (a.paths s ls) e,
+              hop_same w v s (a.paths s ls) e,
               (i.entry e s l ls (subst (λ (x : Place). Held x s) (a.places e l) h)).on_path,
             ));
       })
       none
 
-  pub source-keeps-cycle : Cycle v
-  source-keeps-cycle =
-      cycle-after w v others sent a.packets ok awaited (λ r l n. (a.paths r l, λ e m h. same_stays w v r e (a.places e m) h))
+  pub source_keeps_cycle : Cycle v
+  source_keeps_cycle =
+      cycle_after w v others sent a.packets ok awaited (λ r l n. (a.paths r l, λ e m h. same_stays w v r e (a.places e m) h))
       (λ r l. one r l (ℕ_discrete s r))
       (λ r l t. idle r l (ℕ_discrete s r) t)
       (sent_awaited d.on (asks_no_join did))

@@ -29,15 +29,15 @@ use Rattle.tasks.specs.declared.Onward.TheVariants as onward
 use Rattle.tasks.specs.declared.Packet.{Packet}
 use Rattle.reachable.specs.Cycle.{Awaited, Cycle, cycles_of}
 use Rattle.reachable.specs.Invariant.{Every, Inv, Safe, also, none}
-use Rattle.reachable.proofs.CycleCounts.{no-cycles, onward-most, onward-other}
-use Rattle.reachable.proofs.CycleFrame.{Stays, cycle-after, same_stays}
-use Rattle.reachable.proofs.CyclesAtSources.{source-keeps-cycle}
+use Rattle.reachable.proofs.CycleCounts.{no_cycles, onward_most, onward_other}
+use Rattle.reachable.proofs.CycleFrame.{Stays, cycle_after, same_stays}
+use Rattle.reachable.proofs.CyclesAtSources.{source_keeps_cycle}
 use Rattle.reachable.proofs.DeclareSteps.{Declared, declare_either}
 use Rattle.reachable.proofs.JoinSteps.{Joined, join_either, no_entry_left, the_join}
 use Rattle.reachable.proofs.Kept.{one_or_other}
 use Rattle.reachable.proofs.Sends.{onward_to}
-use Rattle.reachable.proofs.SessionSteps.{change-either, leave-either}
-use Rattle.reachable.proofs.SourceCycles.{changing_cycle, leaving-cycle}
+use Rattle.reachable.proofs.SessionSteps.{change_either, leave_either}
+use Rattle.reachable.proofs.SourceCycles.{changing_cycle, leaving_cycle}
 
 -- LEAVE AND CHANGE ----------------------------------------------------------------------------------------------------
 
@@ -47,16 +47,16 @@ no_response = kind.Update
 
 pub leave_cycle : (w : List ℕ) (s : ℕ) → s < 32 → Inv w → Cycle w → Cycle (leave_of w s).words
 leave_cycle w s ls i c =
-    leave-either Cycle w s ls i.safe c
+    leave_either Cycle w s ls i.safe c
     (λ active v a.
-    source-keeps-cycle w i c s ls no_response (leaving_of (source_of w s)) (leaving-cycle no_response (source_of w s)) (packets_of w) v a i.safe.packets
+    source_keeps_cycle w i c s ls no_response (leaving_of (source_of w s)) (leaving_cycle no_response (source_of w s)) (packets_of w) v a i.safe.packets
     c.awaited (λ r. omega arith) (λ t. absurd (clash (is_response no_response) t refl)))
 
 pub change_cycle : (w : List ℕ) (s m : ℕ) → s < 32 → m ≤ max_rate → Inv w → Cycle w → Cycle (change_of w s m).words
 change_cycle w s m ls lm i c =
-    change-either Cycle w s ls i.safe c m lm
+    change_either Cycle w s ls i.safe c m lm
     (λ active v done a.
-    source-keeps-cycle w i c s ls no_response (changing_of (source_of w s) m) (changing_cycle no_response (source_of w s) m) (packets_of w) v a i.safe.packets
+    source_keeps_cycle w i c s ls no_response (changing_of (source_of w s) m) (changing_cycle no_response (source_of w s) m) (packets_of w) v a i.safe.packets
     c.awaited (λ r. omega arith) (λ t. absurd (clash (is_response no_response) t refl)))
 
 -- JOIN ----------------------------------------------------------------------------------------------------------------
@@ -69,11 +69,11 @@ module _ (w : List ℕ) (i : Inv w) (c : Cycle w) (s : ℕ) (x : Rate) (v : List
   sent = onward_to s 0 sends
 
   none_left : cycles_of s (packets_of w) ≡ 0
-  none_left = no-cycles s (packets_of w) a.no_packet
+  none_left = no_cycles s (packets_of w) a.no_packet
 
   one : (r : ℕ) → r < 32 → Dec (s ≡ r) → cycles_of r (packets_of w) + cycles_of r sent ≤ 1
-  one r l (yes q) = subst (λ (y : ℕ). cycles_of y (packets_of w) + cycles_of y sent ≤ 1) q (omega (arith, none_left, onward-most s s 0 sends))
-  one r l (no n) = omega (arith, c.one r l, onward-other r s 0 sends n)
+  one r l (yes q) = subst (λ (y : ℕ). cycles_of y (packets_of w) + cycles_of y sent ≤ 1) q (omega (arith, none_left, onward_most s s 0 sends))
+  one r l (no n) = omega (arith, c.one r l, onward_other r s 0 sends n)
 
   idle : (r : ℕ) → r < 32 → Dec (s ≡ r) → is_idle (source_of v r).mu ≡ true → cycles_of r (packets_of w) + cycles_of r sent ≡ 0
   idle r l (yes q) t = absurd (clash (is_idle (source_of v s).mu) (ap (λ (y : ℕ). is_idle (source_of v y).mu) q ∙ t) a.waits)
@@ -81,7 +81,7 @@ module _ (w : List ℕ) (i : Inv w) (c : Cycle w) (s : ℕ) (x : Rate) (v : List
       omega (
         arith,
         c.idle r l (ap (λ (z : Source). is_idle z.mu) (sym (a.sources r l (λ q. n (sym q)))) ∙ t),
-        onward-other r s 0 sends n,
+        onward_other r s 0 sends n,
       )
 
   other : (r : ℕ) → 0 < cycles_of r (packets_of w) → r ≡ s → ⊥
@@ -92,7 +92,7 @@ module _ (w : List ℕ) (i : Inv w) (c : Cycle w) (s : ℕ) (x : Rate) (v : List
 
   joined_cycle : Cycle v
   joined_cycle =
-      cycle-after w v (packets_of w) sent a.packets i.safe.packets c.awaited
+      cycle_after w v (packets_of w) sent a.packets i.safe.packets c.awaited
       (λ r l n. (a.paths r l (other r n), λ e m h. same_stays w v r e (a.places e m) h))
       (λ r l. one r l (ℕ_discrete s r))
       (λ r l t. idle r l (ℕ_discrete s r) t)
@@ -112,13 +112,13 @@ module _ (w : List ℕ) (i : Safe w) (c : Cycle w) (e : ℕ) (v : List ℕ) (a :
   stays : (r : ℕ) → Stays w v r
   stays r f l =
       one_or_other (λ (x : ℕ). Held (place_of v x) r → Held (place_of w x) r × (Waiting (place_of w x) r → Waiting (place_of v x) r)) e f
-      (λ h. absurd (nobody_held (place_of v e) a.no-R a.no-F r h))
+      (λ h. absurd (nobody_held (place_of v e) a.no_r a.no_f r h))
       (λ n h. same_stays w v r f (a.elsewhere f l n) h)
 
   declared_cycle : Cycle v
   unfolding cycles_of
   declared_cycle =
-      cycle-after w v (packets_of w) [] (a.packets ∙ sym (append-nil (packets_of w))) i.packets c.awaited (λ r l n. (a.paths r l, stays r))
+      cycle_after w v (packets_of w) [] (a.packets ∙ sym (append-nil (packets_of w))) i.packets c.awaited (λ r l n. (a.paths r l, stays r))
       (λ r l. omega (arith, c.one r l))
       (λ r l t. omega (arith, c.idle r l (ap (λ (z : Source). is_idle z.mu) (sym (a.sources r l)) ∙ t)))
       none

@@ -33,8 +33,8 @@ unfolding weight
 weight_none w x e = sum_none 32 _ (λ s l. rw (e, has_zero s) (omega arith))
 
 module _ (p : Place) (r : R p ≡ 0) (f : F p ≡ 0) where
-  pub empty-sound : Workable p → Sound p
-  empty-sound k = record {
+  pub empty_sound : Workable p → Sound p
+  empty_sound k = record {
     workable = k;
     r32 = omega (arith, r);
     f32 = omega (arith, f);
@@ -43,9 +43,9 @@ module _ (p : Place) (r : R p ≡ 0) (f : F p ≡ 0) where
     fits = λ N x o. omega (arith, weight_none (F p) x f);
   }
 
-  pub empty-fine : is_fine (B p) ≡ true
+  pub empty_fine : is_fine (B p) ≡ true
   unfolding B bound_of sum_of walk ones_in
-  empty-fine = rw (no_members 32 (F p) f, r)
+  empty_fine = rw (no_members 32 (F p) f, r)
 
 -- DECLARE -------------------------------------------------------------------------------------------------------------
 
@@ -53,8 +53,8 @@ module _ (p : Place) (r : R p ≡ 0) (f : F p ≡ 0) where
 pub record Declared (w : List ℕ) (e : ℕ) (v : List ℕ) : Type 0 where
   pub new : (link_of w e).capacity ≡ 0
   pub fits : Fits v
-  pub no-R : R (place_of v e) ≡ 0
-  pub no-F : F (place_of v e) ≡ 0
+  pub no_r : R (place_of v e) ≡ 0
+  pub no_f : F (place_of v e) ≡ 0
   pub elsewhere : (f : ℕ) → f < 64 → (f ≡ e → ⊥) → place_of v f ≡ place_of w f
   pub sources : (s : ℕ) → s < 32 → source_of v s ≡ source_of w s
   pub paths : (s : ℕ) → s < 32 → path_of v s ≡ path_of w s
@@ -75,8 +75,8 @@ declare_either P w e c le lc i k f =
         record {
           new = new;
           fits = fits_link w e c le lc i.fits;
-          no-R = ap (λ (l : Link). l.r) back;
-          no-F = ap (λ (l : Link). l.f) back;
+          no_r = ap (λ (l : Link). l.r) back;
+          no_f = ap (λ (l : Link). l.f) back;
           elsewhere = λ f l n. rw (link_other w e (new_link c) f n, row_after_link w e (new_link c) f le l);
           sources = λ s l. source_after_link w e (new_link c) s le l;
           paths = λ s l. path_after_link w e (new_link c) s le l;

@@ -30,7 +30,7 @@ module _ (w : List ℕ) (i : Inv w) (e : ℕ) (v : List ℕ) (a : Declared w e v
   declared_kept = record {
     safe = declared_safe w i.safe e v a;
     entry = λ f s l k. one_or_other (λ (x : ℕ). Held (place_of v x) s → EntryOk v x s) e f
-        (λ h. absurd (nobody_held (place_of v e) a.no-R a.no-F s h))
+        (λ h. absurd (nobody_held (place_of v e) a.no_r a.no_f s h))
         (λ n h. stays f s k (i.entry f s l k (subst (λ (x : Place). Held x s) (a.elsewhere f l n) h)));
     joins = subst (AllFollowed (active_in v) []) (sym a.packets)
         (followed_same (active_in w) (active_in v) [] (packets_of w)

@@ -20,14 +20,14 @@ use Rattle.reachable.specs.Invariant.{Every, Fits, PacketOk, Safe}
 use Rattle.reachable.proofs.FitsKept.{fits_removed}
 use Rattle.reachable.proofs.Follows.{NotOvertaken}
 use Rattle.reachable.proofs.Lines.{SameLines, lines_removed}
-use Rattle.reachable.proofs.PacketLists.{every-at, every-index, every-without}
+use Rattle.reachable.proofs.PacketLists.{every_at, every_index, every_without}
 use Rattle.reachable.proofs.SentPackets.{join_down, leave_down}
 
 -- what holds of every packet in flight holds of the one at place i
 pub each_at : (P : Packet → Type 0) (w : List ℕ) (i : ℕ) → i < count_of w → Every P (packets_of w) → P (packet_of w i)
 each_at P w i h f =
     let z = packet_of w i in
-    subst P (packets_at w i z h) (every-at z (packets_of w) i (omega (arith, length_packets w)) f)
+    subst P (packets_at w i z h) (every_at z (packets_of w) i (omega (arith, length_packets w)) f)
 
 pub packet_at : (w : List ℕ) (i : ℕ) → Safe w → i < count_of w → PacketOk w (packet_of w i)
 packet_at w i o h = each_at (PacketOk w) w i h o.packets
@@ -53,20 +53,20 @@ module _ (w : List ℕ) (i : ℕ) (h : i < count_of w) where
       split_at (packets_of w) i z (omega (arith, length_packets w)) ∙ ap (λ (p : Packet). before w i ++ p ∷ behind w i) (packets_at w i z h)
 
   -- what holds of every packet in flight holds of the others
-  pub each-other : (P : Packet → Type 0) → Every P (packets_of w) → Every P (rest w i)
-  each-other P f = every-without (before w i) (packet_of w i) (behind w i) (subst (Every P) parted f)
+  pub each_other : (P : Packet → Type 0) → Every P (packets_of w) → Every P (rest w i)
+  each_other P f = every_without (before w i) (packet_of w i) (behind w i) (subst (Every P) parted f)
 
 module _ (w : List ℕ) (i : ℕ) (o : Safe w) (h : i < count_of w) where
   pub taken_out : packets_of (removed w i) ≡ rest w i
   taken_out = packets_removed w i o.fits.long h
 
   -- an earlier packet of the same session, hop and direction would be delivered first
-  pub in-turn : in_turn_of w i ≡ true → Every (NotOvertaken (packet_of w i)) (before w i)
+  pub in_turn : in_turn_of w i ≡ true → Every (NotOvertaken (packet_of w i)) (before w i)
   unfolding in_turn_of
-  in-turn t =
+  in_turn t =
       let z = packet_of w i in
       let n : length (before w i) ≡ i = length-take-le i (packets_of w) (omega (arith, length_packets w)) in
-      every-index z (before w i)
+      every_index z (before w i)
       (λ j l.
       subst (NotOvertaken z) (sym (get_or-take i (packets_of w) j z (omega (arith, n)) ∙ packets_at w j z (omega (arith, n)))) (not_before j (omega (arith, n))))
     where
@@ -80,14 +80,14 @@ module _ (w : List ℕ) (i : ℕ) (o : Safe w) (h : i < count_of w) where
             (not_true (same_lane q p) (all_at i (λ j. not (same_lane (packet_of w j) (packet_of w i))) j t l));
       }
 
-  pub rest_ok : Every (PacketOk w) (rest w i)
-  rest_ok = each-other w i h (PacketOk w) o.packets
+  pub rest_ok_lem : Every (PacketOk w) (rest w i)
+  rest_ok_lem = each_other w i h (PacketOk w) o.packets
 
   pub fewer : count_of (removed w i) ≡ count_of w - 1
   fewer = count_removed w i o.fits.long
 
-  pub fits-left : Fits (removed w i)
-  fits-left = fits_removed w i h o.fits
+  pub fits_left : Fits (removed w i)
+  fits_left = fits_removed w i h o.fits
 
   pub lines_left : SameLines w (removed w i)
   lines_left = lines_removed w i o.fits.long

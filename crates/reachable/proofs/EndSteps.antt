@@ -19,9 +19,9 @@ use Rattle.tasks.specs.declared.Onward.{Onward}
 use Rattle.tasks.specs.declared.Packet.{Packet}
 use Rattle.tasks.specs.Packets.{goes_down}
 use Rattle.reachable.specs.Invariant.{Every, PacketOk, Safe}
-use Rattle.reachable.proofs.Deliveries.{fewer, fits-left, lines_left, packet_at, rest, taken_out}
+use Rattle.reachable.proofs.Deliveries.{fewer, fits_left, lines_left, packet_at, rest, taken_out}
 use Rattle.reachable.proofs.Lines.{lines_trans}
-use Rattle.reachable.proofs.LinkSteps.{LinkAfter, at-link-either, link_does}
+use Rattle.reachable.proofs.LinkSteps.{LinkAfter, at_link_either, link_does}
 use Rattle.reachable.proofs.PacketLists.{every_map}
 use Rattle.reachable.proofs.Sends.{Sent, all_sent, length_onward, onward_to, sends_on}
 use Rattle.reachable.proofs.SentPackets.{onward_ok}
@@ -66,11 +66,11 @@ module _ (w : List ℕ) (j : ℕ) (i : Safe w) (h : j < count_of w) where
   abbrev d : SourceDid
   d = source_does w p
 
-  pub source-did : SourceDone (source_of w s) d
-  source-did = source_done p.kind (source_of w s) ok.within.kind (source_at w s i ls ok.known)
+  pub source_did : SourceDone (source_of w s) d
+  source_did = source_done p.kind (source_of w s) ok.within.kind (source_at w s i ls ok.known)
 
-  pub source-sent-ok : Every (PacketOk w) (sent_by_source w p)
-  source-sent-ok = onward_ok w s 0 down_kind d.on source-did.on ls ok.known (λ t. omega arith) (omega arith)
+  pub source_sent_ok : Every (PacketOk w) (sent_by_source w p)
+  source_sent_ok = onward_ok w s 0 down_kind d.on source_did.on ls ok.known (λ t. omega arith) (omega arith)
 
   at_source_either : (P : List ℕ → Type 0) → P w → ((v : List ℕ) → SourceAfter w p (rest w j) v → P v) → P (at_source_of w j p).words
   unfolding at_source_of
@@ -79,8 +79,8 @@ module _ (w : List ℕ) (j : ℕ) (i : Safe w) (h : j < count_of w) where
       (λ (n : count_of w - 1 + one_if d.on ≤ 256).
       subst P (sym (sends_on _ s 0 d.on))
       (f _
-      (source_written w (removed w j) (lines_left w j i h) (fits-left w j i h) s ls d.source source-did.within (rest w j) (sent_by_source w p)
-      (taken_out w j i h) source-sent-ok (omega (arith, n, fewer w j i h, length_onward s 0 d.on)))))
+      (source_written w (removed w j) (lines_left w j i h) (fits_left w j i h) s ls d.source source_did.within (rest w j) (sent_by_source w p)
+      (taken_out w j i h) source_sent_ok (omega (arith, n, fewer w j i h, length_onward s 0 d.on)))))
 
   -- AT ITS DESTINATION --------------------------------------------------------------------------------------------------
 
@@ -95,8 +95,8 @@ module _ (w : List ℕ) (j : ℕ) (i : Safe w) (h : j < count_of w) where
         go true t = (ok.down t).1
         go false t = absurd (omega (arith, far, ok.up t))
 
-    pub end-sent-ok : Every (PacketOk w) (sent_by_end p)
-    end-sent-ok =
+    pub end_sent_ok : Every (PacketOk w) (sent_by_end p)
+    end_sent_ok =
         onward_ok w s p.hop up_kind o (destination_done p.kind ok.within.kind) ls ok.known
         (λ t. absurd (clash (goes_down up_kind) t refl)) last_hop
 
@@ -106,8 +106,8 @@ module _ (w : List ℕ) (j : ℕ) (i : Safe w) (h : j < count_of w) where
         unless_many_lem P _ w _ k
         (λ (n : count_of w - 1 + one_if o ≤ 256).
         let a =
-        all_sent (removed w j) (sent_by_end p) (fits-left w j i h) (omega (arith, n, fewer w j i h, length_onward s p.hop o))
-        (every_map (sent_by_end p) (λ q k. k.within) end-sent-ok) in
+        all_sent (removed w j) (sent_by_end p) (fits_left w j i h) (omega (arith, n, fewer w j i h, length_onward s p.hop o))
+        (every_map (sent_by_end p) (λ q k. k.within) end_sent_ok) in
         subst P (sym (sends_on _ s p.hop o))
         (f _
         (record {
@@ -151,4 +151,4 @@ deliver_either P w j i k f =
         (λ t.
         let low = positive p.hop (eqb-false p.hop 0 e) in
         let high = ltb-false n p.hop t in
-        at-link-either w j i h low high P k (g.at_link low high)))
+        at_link_either w j i h low high P k (g.at_link low high)))

@@ -13,7 +13,7 @@ use Rattle.reachable.proofs.AtEnds.{deliver_kept}
 use Rattle.reachable.proofs.CyclesAtEnds.{deliver_cycle}
 use Rattle.reachable.proofs.CyclesOfRecords.{change_cycle, declare_cycle, empty_cycle, join_cycle, leave_cycle}
 use Rattle.reachable.proofs.Declares.{declare_kept}
-use Rattle.reachable.proofs.EveryRun.{reachable-kept}
+use Rattle.reachable.proofs.EveryRun.{reachable_kept}
 use Rattle.reachable.proofs.Joins.{join_kept}
 use Rattle.reachable.proofs.LeavesAndChanges.{change_kept, leave_kept}
 use Rattle.reachable.proofs.PassesSafe.{empty_inv}
@@ -35,8 +35,8 @@ event_cycle s w (rec.Change t maximum) k i c = change_cycle w t maximum k.0 k.1 
 event_cycle s w (rec.Deliver position) k i c = deliver_cycle w position i c
 
 pub reachable_inv : (w : List ℕ) → Reachable w → Inv w
-reachable_inv w r = reachable-kept Inv event_kept empty_inv w r
+reachable_inv w r = reachable_kept Inv event_kept empty_inv w r
 
 pub reachable_cycle : (w : List ℕ) → Reachable w → Cycle w
 reachable_cycle w r =
-    (reachable-kept (λ u. Inv u × Cycle u) (λ s u x k b. (event_kept s u x k b.0, event_cycle s u x k b.0 b.1)) (empty_inv, empty_cycle) w r).1
+    (reachable_kept (λ u. Inv u × Cycle u) (λ s u x k b. (event_kept s u x k b.0, event_cycle s u x k b.0 b.1)) (empty_inv, empty_cycle) w r).1

@@ -13,22 +13,22 @@ use Rattle.records.specs.declared.Record.{Record}
 use Rattle.records.specs.Format.{Bytes, RecordOk}
 use Rattle.records.specs.Limits.{input_limit}
 use Rattle.records.specs.Run as records
-use Rattle.records.proofs.Runs.{run-keeps}
+use Rattle.records.proofs.Runs.{run_keeps}
 use Rattle.table.specs.Words.{empty_words}
 use Rattle.reachable.specs.Reachable.{Reachable, empty, ran}
 
 module _ (P : List ℕ → Type 0) (keeps : (s w : List ℕ) (x : Record) → RecordOk s x → P w → P (event_of s w x).words) where
   run_kept : (w s : List ℕ) → Bytes s → P w → P (run_records_of w s).state
   unfolding run_records_of
-  run_kept w s bytes i = run-keeps P call.Machine (judging s) (acting s) s bytes (λ z x o k t. keeps s z x k o) (length s) w 0 0 i
+  run_kept w s bytes i = run_keeps P call.Machine (judging s) (acting s) s bytes (λ z x o k t. keeps s z x k o) (length s) w 0 0 i
 
-  pub machine-kept : (w s : List ℕ) → Bytes s → P w → P (machine_of w s).state
+  pub machine_kept : (w s : List ℕ) → Bytes s → P w → P (machine_of w s).state
   unfolding machine_of
-  machine-kept w s bytes i =
+  machine_kept w s bytes i =
       cases (λ (r : records.Ran (List ℕ)). P r.state) (passes14_of w) _ _
       (λ e. cases (λ (r : records.Ran (List ℕ)). P r.state) (ltb input_limit (length s)) _ _ (λ f. i) (λ f. run_kept w s bytes i))
       (λ e. i)
 
-  pub reachable-kept : P empty_words → (w : List ℕ) → Reachable w → P w
-  reachable-kept i w empty = i
-  reachable-kept i w (ran {w = b} r s bytes) = machine-kept b s bytes (reachable-kept i b r)
+  pub reachable_kept : P empty_words → (w : List ℕ) → Reachable w → P w
+  reachable_kept i w empty = i
+  reachable_kept i w (ran {w = b} r s bytes) = machine_kept b s bytes (reachable_kept i b r)

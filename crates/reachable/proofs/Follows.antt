@@ -11,7 +11,7 @@ use Rattle.soundness.specs.LinkDid.{is_join}
 use Rattle.tasks.specs.declared.Packet.{Packet}
 use Rattle.tasks.specs.Packets.{is_leave}
 use Rattle.reachable.specs.Invariant.{AllFollowed, Every, LeaveFor, Reaches, also, end, here, later, next, none}
-use Rattle.reachable.proofs.PacketLists.{no_packet, some_first, some_left, some-map, some_right, some-split}
+use Rattle.reachable.proofs.PacketLists.{no_packet, some_first, some_left, some_map, some_right, some_split}
 
 -- hops 1 to the last of the session's path
 pub record JoinOnPath (last : ℕ → ℕ) (q : Packet) : Type 0 where
@@ -31,14 +31,14 @@ leave_later : (s h k : ℕ) → h ≤ k → (q : Packet) → LeaveFor s h q → 
 leave_later s h k m q u = record { leave = u.leave; session = u.session; hop = omega (arith, u.hop, m) }
 
 pub reaches_later : (s h k : ℕ) (l : List Packet) → h ≤ k → Reaches s h l → Reaches s k l
-reaches_later s h k l m u = some-map l (leave_later s h k m) u
+reaches_later s h k l m u = some_map l (leave_later s h k m) u
 
 -- a Leave that still reaches h does so after a delivery of p, or it is p, and then what p sends must
 pub reaches_moved : (s h : ℕ) (xs ys : List Packet) (p : Packet) (sent : List Packet)
     → Reaches s h (xs ++ p ∷ ys)
     → (LeaveFor s h p → Reaches s h sent)
     → Reaches s h ((xs ++ ys) ++ sent)
-reaches_moved s h xs ys p sent u f = go (some-split xs (p ∷ ys) u)
+reaches_moved s h xs ys p sent u f = go (some_split xs (p ∷ ys) u)
   where
     of_rest : LeaveFor s h p ⊎ Reaches s h ys → Reaches s h ((xs ++ ys) ++ sent)
     of_rest (inl v) = some_right (xs ++ ys) sent (f v)
@@ -89,11 +89,11 @@ module _ (active : ℕ → Bool) (last : ℕ → ℕ) (p : Packet) (sent : List 
       go (inr u) = more (r s h u)
 
   -- behind p's place
-  pub followed-behind : (b c l : List Packet) → LeavesOf b c → Every (JoinOnPath last) l → AllFollowed active b l → SentFollowed c l
+  pub followed_behind : (b c l : List Packet) → LeavesOf b c → Every (JoinOnPath last) l → AllFollowed active b l → SentFollowed c l
       → AllFollowed active c (l ++ sent)
-  followed-behind b c [] r e end f = sent_end c f
-  followed-behind b c (q ∷ l) r (also o e) (next k a) f =
-      next (λ j n. go j (k j n)) (followed-behind (q ∷ b) (q ∷ c) l (leaves_next q b c r) e a (sent_next q c l f))
+  followed_behind b c [] r e end f = sent_end c f
+  followed_behind b c (q ∷ l) r (also o e) (next k a) f =
+      next (λ j n. go j (k j n)) (followed_behind (q ∷ b) (q ∷ c) l (leaves_next q b c r) e a (sent_next q c l f))
     where
       of_p : is_join q.kind ≡ true → Reaches q.session (q.hop - 1) c ⊎ LeaveFor q.session (q.hop - 1) p
           → Reaches q.session (q.hop - 1) c ⊎ Reaches q.session q.hop (l ++ sent)
@@ -105,11 +105,11 @@ module _ (active : ℕ → Bool) (last : ℕ → ℕ) (p : Packet) (sent : List 
       go j (inl u) = of_p j (r q.session (q.hop - 1) u)
       go j (inr u) = inr (some_left l sent u)
 
-  pub followed-moved : (b xs ys : List Packet) → Every (NotOvertaken p) xs → Every (JoinOnPath last) xs → Every (JoinOnPath last) ys
+  pub followed_moved : (b xs ys : List Packet) → Every (NotOvertaken p) xs → Every (JoinOnPath last) xs → Every (JoinOnPath last) ys
       → AllFollowed active b (xs ++ p ∷ ys)
       → SentFollowed b (xs ++ ys)
       → AllFollowed active b ((xs ++ ys) ++ sent)
-  followed-moved b [] ys a e g (next k c) f = followed-behind (p ∷ b) b ys first g c f
+  followed_moved b [] ys a e g (next k c) f = followed_behind (p ∷ b) b ys first g c f
     where
       first : LeavesOf (p ∷ b) b
       first s h t = flip (some_first p b t)
@@ -117,8 +117,8 @@ module _ (active : ℕ → Bool) (last : ℕ → ℕ) (p : Packet) (sent : List 
           flip : LeaveFor s h p ⊎ Reaches s h b → Reaches s h b ⊎ LeaveFor s h p
           flip (inl u) = inr u
           flip (inr u) = inl u
-  followed-moved b (q ∷ xs) ys (also a d) (also o e) g (next k c) f =
-      next (λ j n. go j (k j n)) (followed-moved (q ∷ b) xs ys d e g c (sent_next q b (xs ++ ys) f))
+  followed_moved b (q ∷ xs) ys (also a d) (also o e) g (next k c) f =
+      next (λ j n. go j (k j n)) (followed_moved (q ∷ b) xs ys d e g c (sent_next q b (xs ++ ys) f))
     where
       by_p : is_join q.kind ≡ true → LeaveFor q.session q.hop p → (q.hop ≤ p.hop) ⊎ (p.hop < q.hop)
           → Reaches q.session q.hop ((xs ++ ys) ++ sent)
@@ -138,4 +138,4 @@ module _ (active : ℕ → Bool) (last : ℕ → ℕ) (p : Packet) (sent : List 
       go : is_join q.kind ≡ true → Reaches q.session (q.hop - 1) b ⊎ Reaches q.session q.hop (xs ++ p ∷ ys)
           → Reaches q.session (q.hop - 1) b ⊎ Reaches q.session q.hop ((xs ++ ys) ++ sent)
       go j (inl u) = inl u
-      go j (inr u) = inr (behind j (some-split xs (p ∷ ys) u))
+      go j (inr u) = inr (behind j (some_split xs (p ∷ ys) u))

@@ -16,12 +16,12 @@ use Rattle.records.specs.Format.{Bytes}
 use Rattle.soundness.proofs.Shares.{sound_not_past}
 use Rattle.table.specs.Words.{place_of}
 use Rattle.reachable.specs.Invariant.{Safe}
-use Rattle.reachable.proofs.EveryRun.{machine-kept}
+use Rattle.reachable.proofs.EveryRun.{machine_kept}
 use Rattle.reachable.proofs.PassesSafe.{passes_safe}
 use Rattle.reachable.proofs.SafeRecords.{event_safe}
 
 pub handed_stays_safe : (w s : List ℕ) → length w ≡ 9153 → Bytes s → passes14_of w ≡ true → Safe (machine_of w s).state
-handed_stays_safe w s n bytes t = machine-kept Safe event_safe w s bytes (passes_safe w n (passes_means w t))
+handed_stays_safe w s n bytes t = machine_kept Safe event_safe w s bytes (passes_safe w n (passes_means w t))
 
 pub handed_stays_within_c : (w s : List ℕ) → length w ≡ 9153 → Bytes s → passes14_of w ≡ true → (e : ℕ) → e < 64
     → sum_of (place_of (machine_of w s).state e) ≡ total.PastC

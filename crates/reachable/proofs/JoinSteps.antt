@@ -38,7 +38,7 @@ use Rattle.tasks.specs.declared.Kind.TheVariants as kind
 use Rattle.tasks.specs.declared.Packet.{Packet}
 use Rattle.reachable.specs.Invariant.{Every, Fits, Inv, PacketOk, Safe, SourceOk, active_in, also, none}
 use Rattle.reachable.proofs.FitsKept.{fits_join}
-use Rattle.reachable.proofs.PacketLists.{every-index, every_map, none-some}
+use Rattle.reachable.proofs.PacketLists.{every_index, every_map, none_some}
 use Rattle.reachable.proofs.Sends.{Sent, all_sent, appended_all}
 use Rattle.reachable.proofs.SentPackets.{sent_ok}
 use Rattle.reachable.proofs.SourceRules.{limit_within}
@@ -49,7 +49,7 @@ none_of_lem : (w : List ℕ) (s : ℕ) → none_of w s (count_of w) ≡ true →
 unfolding none_of
 none_of_lem w s h =
     let z = packet_of w 0 in
-    every-index z (packets_of w)
+    every_index z (packets_of w)
     (λ i l.
     let k : i < count_of w = omega (arith, l, length_packets w) in
     subst (λ (q : Packet). q.session ≡ s → ⊥) (sym (packets_at w i z k))
@@ -84,7 +84,7 @@ pub record Route (v : List ℕ) (s : ℕ) (z : Source) (bytes : List ℕ) (at n 
 -- where an entry of a session that is not active has a Leave to come, it had no entry left
 pub no_entry_left : (w : List ℕ) (s : ℕ) (x : Rate) (v : List ℕ) → Inv w → Joined w s x v → (e : ℕ) → e < 64 → Held (place_of w e) s → ⊥
 no_entry_left w s x v i a e l h =
-    none-some (packets_of w) (every_map (packets_of w) (λ q m u. m u.session) a.no_packet)
+    none_some (packets_of w) (every_map (packets_of w) (λ q m u. m u.session) a.no_packet)
     ((i.entry e s l a.join.within.session h).live a.left)
 
 module _ (w : List ℕ) (i : Safe w) (s : ℕ) (ls : s < 32) (bytes : List ℕ) (at n : ℕ) (path : Path bytes at n) (whole : at + 8 ≤ length bytes)

@@ -20,7 +20,7 @@ use Rattle.reachable.proofs.Follows.{followed_same}
 use Rattle.reachable.proofs.JoinSteps.{Joined, join_either, no_entry_left, the_join}
 use Rattle.reachable.proofs.Kept.{entry_kept, one_or_other}
 use Rattle.reachable.proofs.LeavesAndChanges.{followed_append}
-use Rattle.reachable.proofs.PacketLists.{every-both, every_map, some_left}
+use Rattle.reachable.proofs.PacketLists.{every_both, every_map, some_left}
 use Rattle.reachable.proofs.SafeRecords.{joined_safe}
 
 module _ (w : List ℕ) (i : Inv w) (s : ℕ) (x : Rate) (v : List ℕ) (a : Joined w s x v) where
@@ -45,7 +45,7 @@ module _ (w : List ℕ) (i : Inv w) (s : ℕ) (x : Rate) (v : List ℕ) (a : Joi
     joins = subst (AllFollowed (active_in v) []) (sym a.packets)
         (followed_append (active_in v) w (packets_of w) sent i.safe.packets
         (followed_same (active_in w) (active_in v) [] (packets_of w)
-        (every_map (packets_of w) (λ q u. other_active q.session u.0.within.session u.1) (every-both (packets_of w) i.safe.packets a.no_packet))
+        (every_map (packets_of w) (λ q u. other_active q.session u.0.within.session u.1) (every_both (packets_of w) i.safe.packets a.no_packet))
         i.joins)
         (λ c f. next (λ j t. absurd (clash (active_in v s) a.active t)) end));
   }

@@ -31,8 +31,8 @@ module _ (w v : List ℕ) (s : ℕ) (same : path_of v s ≡ path_of w s) where
   stop_same i h =
       sym (path_stop v s i 0 (omega (arith, hops_same, h))) ∙ ap (λ (l : List ℕ). get_or l i 0) same ∙ path_stop w s i 0 h
 
-  pub hop-same : (e : ℕ) → hop_of v s e ≡ hop_of w s e
-  hop-same e = ap (λ (l : List ℕ). hop_from 1 l e) same
+  pub hop_same : (e : ℕ) → hop_of v s e ≡ hop_of w s e
+  hop_same e = ap (λ (l : List ℕ). hop_from 1 l e) same
 
 pub packet_kept : (w v : List ℕ) (q : Packet) → path_of v q.session ≡ path_of w q.session → PacketOk w q → PacketOk v q
 packet_kept w v q same o =
@@ -67,7 +67,7 @@ pub entry_kept : (w v : List ℕ) (e s : ℕ) → path_of v s ≡ path_of w s �
     → (active_in v s ≡ false → Reaches s (hop_of w s e) (packets_of v))
     → EntryOk v e s
 entry_kept w v e s same on live =
-    let h = hop-same w v s same e in
+    let h = hop_same w v s same e in
     record { on_path = omega (arith, h, on); live = λ a. subst (λ (n : ℕ). Reaches s n (packets_of v)) (sym h) (live a) }
 
 -- THE LINK AT A HOP ---------------------------------------------------------------------------------------------------

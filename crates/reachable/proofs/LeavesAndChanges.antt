@@ -17,14 +17,14 @@ use Rattle.table.specs.Words.{packets_of, source_of}
 use Rattle.tasks.specs.declared.Kind.TheVariants as kind
 use Rattle.tasks.specs.declared.Packet.{Packet}
 use Rattle.reachable.specs.Invariant.{AllFollowed, Every, Inv, PacketOk, Reaches, active_in, also, end, here, next, none}
-use Rattle.reachable.proofs.Follows.{followed-behind}
+use Rattle.reachable.proofs.Follows.{followed_behind}
 use Rattle.reachable.proofs.Kept.{one_or_other}
-use Rattle.reachable.proofs.LinesFrame.{inv-packets, inv-sources}
+use Rattle.reachable.proofs.LinesFrame.{inv_packets, inv_sources}
 use Rattle.reachable.proofs.PacketLists.{every_map, some_left, some_right}
-use Rattle.reachable.proofs.SafeRecords.{changing-safe, leaving-safe}
+use Rattle.reachable.proofs.SafeRecords.{changing_safe, leaving_safe}
 use Rattle.reachable.proofs.Sends.{onward_to}
 use Rattle.reachable.proofs.SentPackets.{join_on_path, last_of, onward_followed}
-use Rattle.reachable.proofs.SessionSteps.{SessionAfter, change-either, leave-either, the_leave}
+use Rattle.reachable.proofs.SessionSteps.{SessionAfter, change_either, leave_either, the_leave}
 use Rattle.reachable.proofs.SourceRules.{SourceDone, down_kind}
 use Rattle.reachable.proofs.SourceWrites.{active_same}
 
@@ -39,7 +39,7 @@ pub followed_append : (active : ℕ → Bool) (w : List ℕ) (l sent : List Pack
     → AllFollowed active [] (l ++ sent)
 unfolding no_leave_lem
 followed_append active w l sent e a f =
-    followed-behind active (last_of w) no_leave_lem sent (λ h t m n. absurd (clash false t refl)) [] [] l (λ s h u. inl u) (every_map l (join_on_path w) e) a
+    followed_behind active (last_of w) no_leave_lem sent (λ h t m n. absurd (clash false t refl)) [] [] l (λ s h u. inl u) (every_map l (join_on_path w) e) a
     (λ c u v. f c v)
 
 -- LEAVE ---------------------------------------------------------------------------------------------------------------
@@ -74,7 +74,7 @@ module _ (w : List ℕ) (s : ℕ) (ls : s < 32) (i : Inv w) (active : active_in 
   leaving_kept : SessionAfter w s (leaving_of (source_of w s)) v → Inv v
   unfolding leaving_of
   leaving_kept a =
-      inv-sources w v i (leaving-safe w s ls i.safe active v a) a.places a.paths
+      inv_sources w v i (leaving_safe w s ls i.safe active v a) a.places a.paths
       (λ r h l p m live t. subst (Reaches r h) (sym a.packets) (reaches r h l p live t))
       (subst (AllFollowed (active_in v) []) (sym a.packets) (followed_leave (active_in w) (active_in v) s w [] (packets_of w) other i.safe.packets i.joins))
     where
@@ -90,14 +90,14 @@ module _ (w : List ℕ) (s : ℕ) (ls : s < 32) (i : Inv w) (active : active_in 
   changing_kept m done a =
       let d = changing_of (source_of w s) m in
       let l = onward_to s 0 d.on in
-      inv-packets w v i (changing-safe w s ls i.safe active v m done a) a.places a.paths (active_same a done.active)
+      inv_packets w v i (changing_safe w s ls i.safe active v m done a) a.places a.paths (active_same a done.active)
       (λ r h n m x. subst (Reaches r h) (sym a.packets) (some_left (packets_of w) l x))
       (subst (AllFollowed (active_in w) []) (sym a.packets)
       (followed_append (active_in w) w (packets_of w) l i.safe.packets i.joins
       (λ c f. onward_followed (active_in w) s 0 down_kind d.on c done.on (λ t b. absurd (clash (is_join down_kind) t refl)))))
 
 pub leave_kept : (w : List ℕ) (s : ℕ) → s < 32 → Inv w → Inv (leave_of w s).words
-leave_kept w s ls i = leave-either Inv w s ls i.safe i (λ active v a. leaving_kept w s ls i active v a)
+leave_kept w s ls i = leave_either Inv w s ls i.safe i (λ active v a. leaving_kept w s ls i active v a)
 
 pub change_kept : (w : List ℕ) (s m : ℕ) → s < 32 → m ≤ max_rate → Inv w → Inv (change_of w s m).words
-change_kept w s m ls lm i = change-either Inv w s ls i.safe i m lm (λ active v done a. changing_kept w s ls i active v m done a)
+change_kept w s m ls lm i = change_either Inv w s ls i.safe i m lm (λ active v done a. changing_kept w s ls i active v m done a)

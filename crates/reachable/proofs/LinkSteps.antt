@@ -25,7 +25,7 @@ use Rattle.tasks.specs.Figure2.{link_step_of}
 use Rattle.tasks.specs.Packets.{goes_down}
 use Rattle.reachable.specs.Invariant.{Every, Fits, PacketOk, Safe}
 use Rattle.reachable.proofs.BurstSets.{members_sessions, on_path_count, on_path_crosses}
-use Rattle.reachable.proofs.Deliveries.{fewer, fits-left, lines_left, packet_at, rest, taken_out}
+use Rattle.reachable.proofs.Deliveries.{fewer, fits_left, lines_left, packet_at, rest, taken_out}
 use Rattle.reachable.proofs.FitsKept.{fits_place, sound_in_range}
 use Rattle.reachable.proofs.Kept.{hop_at}
 use Rattle.reachable.proofs.PacketLists.{every_append, every_map}
@@ -82,14 +82,14 @@ module _ (w : List ℕ) (j : ℕ) (i : Safe w) (h : j < count_of w)
   abbrev d : Did
   d = link_does w p
 
-  pub link-below : e < 64
-  link-below = stop_below w s (p.hop - 1)
+  pub link_below : e < 64
+  link_below = stop_below w s (p.hop - 1)
 
-  pub link-did : LinkDid s p.kind (place_of w e) d
-  link-did = did_link e s p.kind (place_of w e) link-below ok.within.session (i.place e link-below) ok.within.kind
+  pub link_did : LinkDid s p.kind (place_of w e) d
+  link_did = did_link e s p.kind (place_of w e) link_below ok.within.session (i.place e link_below) ok.within.kind
 
-  pub hop-here : hop_of w s e ≡ p.hop
-  hop-here = hop_at w s (p.hop - 1) (i.source s ok.within.session) (omega arith) ∙ omega arith
+  pub hop_here : hop_of w s e ≡ p.hop
+  hop_here = hop_at w s (p.hop - 1) (i.source s ok.within.session) (omega arith) ∙ omega arith
 
   abbrev to : List ℕ
   to = burst_sessions w p
@@ -98,13 +98,13 @@ module _ (w : List ℕ) (j : ℕ) (i : Safe w) (h : j < count_of w)
   written = put_place (removed w j) e d.place
 
   many : length d.place.entries ≡ 32
-  many = link-did.sound.workable.rates.many
+  many = link_did.sound.workable.rates.many
 
   abbrev sent : List Packet
   sent = sent_by_link w p
 
   path_written : (r : ℕ) → r < 32 → path_of written r ≡ path_of w r
-  path_written r l = path_after_place (removed w j) e d.place r link-below many l ∙ (lines_left w j i h).path r l
+  path_written r l = path_after_place (removed w j) e d.place r link_below many l ∙ (lines_left w j i h).path r l
 
   -- the burst and the packet that goes on are one list at the end
   one_list : send_on_of (send_all_of written e d.burst (on_path_of w e d.to)) s p.hop d.on ≡ appended_all written sent
@@ -117,20 +117,20 @@ module _ (w : List ℕ) (j : ℕ) (i : Safe w) (h : j < count_of w)
       ∙ ap (λ (l : List Packet). appended_all written (l ++ onward_to s p.hop d.on))
       (burst_same w written e k to (members_sessions _) path_written)
 
-  pub link-sent-ok : Every (PacketOk w) sent
-  link-sent-ok =
+  pub link_sent_ok : Every (PacketOk w) sent
+  link_sent_ok =
       every_append (burst_to w e (burst_kind d.burst) to) _
       (burst_ok w e (burst_kind d.burst) to (burst_up d.burst) (burst_within d.burst) (on_path_crosses w e d.to))
-      (onward_ok w s p.hop p.kind d.on link-did.on ok.within.session ok.known (λ t. high) (omega arith))
+      (onward_ok w s p.hop p.kind d.on link_did.on ok.within.session ok.known (λ t. high) (omega arith))
 
   sent_all : count_of w - 1 + size_of (on_path_of w e d.to) + one_if d.on ≤ 256 → Sent written (packets_of written) sent (appended_all written sent)
   sent_all n =
-      let c : count_of written ≡ count_of w - 1 = count_after_place (removed w j) e d.place link-below many ∙ fewer w j i h in
+      let c : count_of written ≡ count_of w - 1 = count_after_place (removed w j) e d.place link_below many ∙ fewer w j i h in
       let k : length sent ≡ size_of (on_path_of w e d.to) + one_if d.on =
       length-append (burst_to w e (burst_kind d.burst) to) (onward_to s p.hop d.on)
       ∙ ap₂ ◌+◌ (length_burst w e (burst_kind d.burst) to ∙ on_path_count w e d.to) (length_onward s p.hop d.on) in
-      all_sent written sent (fits_place (removed w j) e d.place link-below link-did.sound (fits-left w j i h)) (omega (arith, c, k))
-      (every_map sent (λ q o. o.within) link-sent-ok)
+      all_sent written sent (fits_place (removed w j) e d.place link_below link_did.sound (fits_left w j i h)) (omega (arith, c, k))
+      (every_map sent (λ q o. o.within) link_sent_ok)
 
   link_after : count_of w - 1 + size_of (on_path_of w e d.to) + one_if d.on ≤ 256 → LinkAfter w p (rest w j) (appended_all written sent)
   link_after n =
@@ -138,20 +138,20 @@ module _ (w : List ℕ) (j : ℕ) (i : Safe w) (h : j < count_of w)
       let r = lines_left w j i h in
       record {
         fits = a.fits;
-        here = a.lines.place e link-below
-            ∙ place_back (removed w j) e d.place (fits-left w j i h).long link-below (sound_in_range link-did.sound);
-        elsewhere = λ f l m. a.lines.place f l ∙ place_other (removed w j) e d.place f m link-below l many ∙ r.place f l;
-        sources = λ t l. a.lines.source t l ∙ source_after_place (removed w j) e d.place t link-below many l ∙ r.source t l;
+        here = a.lines.place e link_below
+            ∙ place_back (removed w j) e d.place (fits_left w j i h).long link_below (sound_in_range link_did.sound);
+        elsewhere = λ f l m. a.lines.place f l ∙ place_other (removed w j) e d.place f m link_below l many ∙ r.place f l;
+        sources = λ t l. a.lines.source t l ∙ source_after_place (removed w j) e d.place t link_below many l ∙ r.source t l;
         paths = λ t l. a.lines.path t l ∙ path_written t l;
         packets = a.packets
-            ∙ ap (λ (l : List Packet). l ++ sent) (packets_after_place (removed w j) e d.place link-below many ∙ taken_out w j i h);
+            ∙ ap (λ (l : List Packet). l ++ sent) (packets_after_place (removed w j) e d.place link_below many ∙ taken_out w j i h);
       }
 
   -- what holds of the table before it, and of the table after it where it is taken, holds after it
-  pub at-link-either : (P : List ℕ → Type 0) → P w → ((v : List ℕ) → d.fine ≡ true → LinkAfter w p (rest w j) v → P v)
+  pub at_link_either : (P : List ℕ → Type 0) → P w → ((v : List ℕ) → d.fine ≡ true → LinkAfter w p (rest w j) v → P v)
       → P (at_link_of w j p e).words
   unfolding at_link_of
-  at-link-either P o f =
+  at_link_either P o f =
       cases (λ (x : Step). P x.words) d.fine _ _
       (λ g. unless_many_lem P _ w _ o (λ n. subst P (sym one_list) (f (appended_all written sent) g (link_after n))))
       (λ g. o)

@@ -18,7 +18,7 @@ use Rattle.reachable.specs.Reachable.{Reachable}
 use Rattle.reachable.proofs.CycleFrame.{response_in_cycle}
 use Rattle.reachable.proofs.Deliveries.{each_at, packet_at}
 use Rattle.reachable.proofs.EveryRecord.{reachable_cycle, reachable_inv}
-use Rattle.reachable.proofs.LinkSteps.{hop-here, link-below, link_at}
+use Rattle.reachable.proofs.LinkSteps.{hop_here, link_below, link_at}
 use Rattle.reachable.proofs.SentPackets.{join_down, response_up}
 
 -- what is known of the packet at place i
@@ -38,8 +38,8 @@ join_not_held w r i l t high =
     (λ h.
     omega (
       arith,
-      hop-here w i v l low high,
-      (awaited_at w r i l).new t e (link-below w i v l low high) (holds_held (place_of w e) p.session h),
+      hop_here w i v l low high,
+      (awaited_at w r i l).new t e (link_below w i v l low high) (holds_held (place_of w e) p.session h),
     ))
 
 -- a Response is about to reach no link that holds its session but is not both restricting it and waiting. A link where a Leave was first no longer
@@ -55,5 +55,5 @@ response_awaited w r i l t low h =
     let up = response_up p.kind t in
     let high = (packet_at w i v l).up up in
     let front : front_of p ≡ p.hop + 1 = ap (λ (b : Bool). cond b p.hop (p.hop + 1)) up in
-    (awaited_at w r i l).waits (response_in_cycle p.kind t) e (link-below w i v l low high) (holds_held (place_of w e) p.session h)
-    (omega (arith, hop-here w i v l low high, front))
+    (awaited_at w r i l).waits (response_in_cycle p.kind t) e (link_below w i v l low high) (holds_held (place_of w e) p.session h)
+    (omega (arith, hop_here w i v l low high, front))

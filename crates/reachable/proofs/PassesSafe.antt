@@ -18,7 +18,7 @@ use Rattle.sessions.specs.Set.{has}
 use Rattle.sessions.proofs.Members.{has_high, has_lt, has_or_not, is_out}
 use Rattle.soundness.specs.Sound.{Sound}
 use Rattle.soundness.proofs.Holding.{held_holds}
-use Rattle.soundness.proofs.Weights.{members-within}
+use Rattle.soundness.proofs.Weights.{members_within}
 use Rattle.table.specs.Words.{count_of, empty_words, packet_of, packets_of, place_of}
 use Rattle.table.proofs.Empty.{empty_length, empty_packets}
 use Rattle.ranges.proofs.FitsMeans.{entry_fits_means, packet_fits_means}
@@ -26,7 +26,7 @@ use Rattle.table.proofs.InRange.{place_in_range, row_rates}
 use Rattle.table.proofs.Packets.{length_packets, packets_at}
 use Rattle.table.proofs.Workables.{place_workable}
 use Rattle.reachable.specs.Invariant.{AllFollowed, Fits, Inv, LeaveFor, PacketOk, Reaches, Safe, active_in, end}
-use Rattle.reachable.proofs.PacketLists.{every-index, some-index}
+use Rattle.reachable.proofs.PacketLists.{every_index, some_index}
 
 -- LINKS ---------------------------------------------------------------------------------------------------------------
 
@@ -55,7 +55,7 @@ module _ (w : List ℕ) (o : Passes w) (e : ℕ) (l : e < 64) where
         apart = both_words;
         rates = λ s k h. entry_fits_means w e s k (o.entries e s l k (held_holds p s h));
         fits = λ N x c.
-            members-within N x p c.pos (λ s k h. record { pos = (row_rates w e s k).pos; same = c.shown s k }) sum.sum (place_workable w e)
+            members_within N x p c.pos (λ s k h. record { pos = (row_rates w e s k).pos; same = c.shown s k }) sum.sum (place_workable w e)
             sum.sums;
       }
 
@@ -74,7 +74,7 @@ passes_packet w o i l = record {
 leave_reaches : (w : List ℕ) (s h : ℕ) → LeaveToCome w s h → Reaches s h (packets_of w)
 leave_reaches w s h u =
     let z = packet_of w 0 in
-    some-index z (packets_of w) u.place (omega (arith, u.flying, length_packets w))
+    some_index z (packets_of w) u.place (omega (arith, u.flying, length_packets w))
     (subst (LeaveFor s h) (sym (packets_at w u.place z u.flying)) (record { leave = u.leave; session = u.session; hop = u.hop }))
 
 -- THE TABLE -----------------------------------------------------------------------------------------------------------
@@ -98,7 +98,7 @@ passes_safe w n o = record {
   source = λ s l. record { joined = o.joined s l; declared = λ i k. o.declared s i l k; once = λ i j k m q. o.once s i j l k m q };
   packets =
       let z = packet_of w 0 in
-      every-index z (packets_of w)
+      every_index z (packets_of w)
       (λ i l.
       let k : i < count_of w = omega (arith, l, length_packets w) in
       subst (PacketOk w) (sym (packets_at w i z k)) (passes_packet w o i k));

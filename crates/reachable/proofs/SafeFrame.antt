@@ -30,16 +30,16 @@ module _ (w v : List ℕ) (o : Safe w) where
   }
 
   -- all links but e are as they were
-  pub links-but : (e : ℕ) → LinkKept w v e → ((f : ℕ) → f < 64 → (f ≡ e → ⊥) → place_of v f ≡ place_of w f) → (f : ℕ) → f < 64 → LinkKept w v f
-  links-but e k same f l = one_or_other (LinkKept w v) e f k (λ n. link_same f l (same f l n))
+  pub links_but : (e : ℕ) → LinkKept w v e → ((f : ℕ) → f < 64 → (f ≡ e → ⊥) → place_of v f ≡ place_of w f) → (f : ℕ) → f < 64 → LinkKept w v f
+  links_but e k same f l = one_or_other (LinkKept w v) e f k (λ n. link_same f l (same f l n))
 
   module _ (fits : Fits v) (links : (e : ℕ) → e < 64 → LinkKept w v e) where
     -- a session that keeps its path
     pub path_same : (s : ℕ) → s < 32 → path_of v s ≡ path_of w s → (active_in v s ≡ true → 0 < hops_of w s) → SourceOk v s
     path_same s l q joined = source_kept w v s q joined (λ j m c. (links (stop_of w s j) (stop_below w s j)).declared c) (o.source s l)
 
-    pub safe-after : ((s : ℕ) → s < 32 → SourceOk v s) → Every (PacketOk v) (packets_of v) → Safe v
-    safe-after sources packets = record {
+    pub safe_after : ((s : ℕ) → s < 32 → SourceOk v s) → Every (PacketOk v) (packets_of v) → Safe v
+    safe_after sources packets = record {
       fits = fits;
       place = λ e l. (links e l).sound;
       fine = λ e l. (links e l).fine;
@@ -48,10 +48,10 @@ module _ (w v : List ℕ) (o : Safe w) where
     }
 
     -- where all sessions keep their paths
-    pub safe-same-paths : ((s : ℕ) → s < 32 → path_of v s ≡ path_of w s) → ((s : ℕ) → s < 32 → active_in v s ≡ true → 0 < hops_of w s) → (l : List Packet)
+    pub safe_same_paths : ((s : ℕ) → s < 32 → path_of v s ≡ path_of w s) → ((s : ℕ) → s < 32 → active_in v s ≡ true → 0 < hops_of w s) → (l : List Packet)
         → packets_of v ≡ l
         → Every (PacketOk w) l
         → Safe v
-    safe-same-paths paths joined l is ok =
-        safe-after (λ s k. path_same s k (paths s k) (joined s k))
+    safe_same_paths paths joined l is ok =
+        safe_after (λ s k. path_same s k (paths s k) (joined s k))
         (subst (Every (PacketOk v)) (sym is) (every_map l (λ q u. packet_kept w v q (paths q.session u.within.session) u) ok))

@@ -44,8 +44,8 @@ module _ (w : List ℕ) (s : ℕ) (i : Safe w) (ls : s < 32) (active : active_in
   pub leave_ok : Every (PacketOk w) (the_leave s ∷ [])
   leave_ok = also (sent_ok w s 0 kind.Leave ls known (λ t. omega arith) (omega arith) tt) none
 
-  pub changed-ok : (d : SourceDid) → SourceDone (source_of w s) d → Every (PacketOk w) (onward_to s 0 d.on)
-  changed-ok d done = onward_ok w s 0 down_kind d.on done.on ls known (λ t. omega arith) (omega arith)
+  pub changed_ok : (d : SourceDid) → SourceDone (source_of w s) d → Every (PacketOk w) (onward_to s 0 d.on)
+  changed_ok d done = onward_ok w s 0 down_kind d.on done.on ls known (λ t. omega arith) (omega arith)
 
 module _ (P : List ℕ → Type 0) (w : List ℕ) (s : ℕ) (ls : s < 32) (i : Safe w) (k : P w) where
   sends_either : (d : SourceDid) → SourceWithin d.source → Every (PacketOk w) (onward_to s 0 d.on) → ((v : List ℕ) → SessionAfter w s d v → P v)
@@ -59,9 +59,9 @@ module _ (P : List ℕ → Type 0) (w : List ℕ) (s : ℕ) (ls : s < 32) (i : S
       (source_written w w (lines_refl w) i.fits s ls d.source o (packets_of w) (onward_to s 0 d.on) refl ok
       (omega (arith, n, length_onward s 0 d.on)))))
 
-  pub leave-either : (active_in w s ≡ true → (v : List ℕ) → SessionAfter w s (leaving_of (source_of w s)) v → P v) → P (leave_of w s).words
+  pub leave_either : (active_in w s ≡ true → (v : List ℕ) → SessionAfter w s (leaving_of (source_of w s)) v → P v) → P (leave_of w s).words
   unfolding leave_of leaving_of
-  leave-either f =
+  leave_either f =
       cases (λ (x : Step). P x.words) (source_of w s).active _ _
       (λ a.
       let o = within w s i ls a in
@@ -70,16 +70,16 @@ module _ (P : List ℕ → Type 0) (w : List ℕ) (s : ℕ) (ls : s < 32) (i : S
       (leave_ok w s i ls a) (f a))
       (λ a. k)
 
-  pub change-either : (m : ℕ) → m ≤ max_rate
+  pub change_either : (m : ℕ) → m ≤ max_rate
       → (active_in w s ≡ true → (v : List ℕ) → SourceDone (source_of w s) (changing_of (source_of w s) m) → SessionAfter w s (changing_of (source_of w s) m) v → P v)
       → P (change_of w s m).words
   unfolding change_of
-  change-either m lm f =
+  change_either m lm f =
       cases (λ (x : Step). P x.words) (source_of w s).active _ _
       (λ a.
       cases (λ (x : Step). P x.words) (above_line (source_of w s).access m) _ _ (λ b. k)
       (λ b.
       let d = changing_of (source_of w s) m in
       let done = changing_done (source_of w s) m lm (ltb-false _ _ b) (within w s i ls a) in
-      sends_either d done.within (changed-ok w s i ls a d done) (λ v. f a v done)))
+      sends_either d done.within (changed_ok w s i ls a d done) (λ v. f a v done)))
       (λ a. k)

@@ -47,9 +47,9 @@ module _ (k : Kind) (z : Source) where
   unfolding source_bottleneck_of announced_of
   bottleneck_cycle = cases (SourceCycle k z) (is_idle z.mu && not z.bottlenecked) _ _ (λ e. stays refl refl) (λ e. stays refl refl)
 
-  pub leaving-cycle : SourceCycle k z (leaving_of z)
+  pub leaving_cycle : SourceCycle k z (leaving_of z)
   unfolding leaving_of
-  leaving-cycle = stays refl refl
+  leaving_cycle = stays refl refl
 
 -- a Response
 module _ (x : Rate) (η : Eta) (z : Source) where

@@ -66,9 +66,9 @@ module _ (z : Source) (o : SourceWithin z) where
   noted : SourceDone z (noted_of z)
   noted = kept z.free z.mu z.rate true z.bottlenecked z.told onward.Nothing o.rate o.told refl
 
-  pub request-done : SourceDone z (request_of z)
+  pub request_done : SourceDone z (request_of z)
   unfolding request_of
-  request-done =
+  request_done =
       cases (SourceDone z) (is_idle z.mu) _ _
       (λ e. kept false mu.WaitingResponse z.rate false false z.told (probing z) o.rate o.told probe_on)
       (λ e. noted)
@@ -130,7 +130,7 @@ source_done k z h o = cases (SourceDone z) z.active _ _ (λ e. arrived_done k z 
 
 pub changing_done : (z : Source) (m : ℕ) → m ≤ max_rate → m ≤ z.access → SourceWithin z → SourceDone z (changing_of z m)
 changing_done z m l a o =
-    let d = request-done (with_maximum z m) (record { joined = o.joined; access = o.access; maximum = l; line = a; rate = o.rate; told = o.told }) in
+    let d = request_done (with_maximum z m) (record { joined = o.joined; access = o.access; maximum = l; line = a; rate = o.rate; told = o.told }) in
     record { active = d.active; within = d.within; on = d.on }
 
 -- Figure 4

@@ -16,10 +16,10 @@ kind_0_not_taken call.Calculation = refl
 kind_0_not_taken call.Machine = refl
 
 module _ (s : List ℕ) (at : ℕ) (h : length s ≤ at) where
-  pub read-past-end : (c : Call) → read_at c s at ≡ read.Refused refusal.KindNotTaken
+  pub read_past_end : (c : Call) → read_at c s at ≡ read.Refused refusal.KindNotTaken
   unfolding read_at
-  read-past-end c = rw (get_or-eq_default s 0 h, kind_0_not_taken c)
+  read_past_end c = rw (get_or-eq_default s 0 h, kind_0_not_taken c)
 
-  pub size-past-end : size_at s at ≡ 1
+  pub size_past_end : size_at s at ≡ 1
   unfolding size_at body_of
-  size-past-end = rw (get_or-eq_default s 0 h)
+  size_past_end = rw (get_or-eq_default s 0 h)

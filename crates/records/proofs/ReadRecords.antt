@@ -133,8 +133,8 @@ judged_taken (read.Record y) judge x e = taken (judge y) refl e
 judged_taken (read.Refused r) judge x e = absurd (not_read r x e)
 
 module _ (c : Call) (s : List ℕ) (at : ℕ) (judge : Record → Verdict) (x : Record) (e : judged (read_at c s at) judge ≡ read.Record x) where
-  pub judged-record-ok : Bytes s → RecordOk s x
-  judged-record-ok bytes = read_record_ok c s at x bytes (judged_read (read_at c s at) judge x e)
+  pub judged_record_ok : Bytes s → RecordOk s x
+  judged_record_ok bytes = read_record_ok c s at x bytes (judged_read (read_at c s at) judge x e)
 
-  pub judged-record-ends : at + size_at s at ≤ length s
-  judged-record-ends = subst (Ends s at) (judged_read (read_at c s at) judge x e) (read_ends c s at)
+  pub judged_record_ends : at + size_at s at ≤ length s
+  judged_record_ends = subst (Ends s at) (judged_read (read_at c s at) judge x e) (read_ends c s at)

@@ -21,7 +21,7 @@ use Rattle.records.specs.declared.Record.{Record}
 use Rattle.records.specs.declared.Refusal.{Refusal}
 use Rattle.records.specs.declared.Verdict.{Verdict}
 use Rattle.records.specs.declared.Verdict.TheVariants as verdict
-use Rattle.records.proofs.ReadRecords.{judged-record-ok, judged_taken}
+use Rattle.records.proofs.ReadRecords.{judged_record_ok, judged_taken}
 use Rattle.records.proofs.Refused.{not_finished}
 
 -- TURN BY TURN --------------------------------------------------------------------------------------------------------
@@ -37,22 +37,22 @@ module _ {S : Type 0} (c : Call) (judge : S → Record → Verdict) (act : S →
   run_end (suc k) z n at h = rw (le-ltb at (length s) h)
 
   -- a record that is taken
-  pub run-takes : (k : ℕ) (z : S) (n at : ℕ) (x : Record) → at < length s → judged (read_at c s at) (judge z) ≡ read.Record x
+  pub run_takes : (k : ℕ) (z : S) (n at : ℕ) (x : Record) → at < length s → judged (read_at c s at) (judge z) ≡ read.Record x
       → run_from c judge act s (suc k) z n at ≡ run_from c judge act s k (act z x) (n + 1) (at + size_at s at)
   unfolding run_from
-  run-takes k z n at x b e = rw (lt-ltb at (length s) b, e)
+  run_takes k z n at x b e = rw (lt-ltb at (length s) b, e)
 
   -- the same, of as many turns as bytes are left
-  pub run-taken : (z : S) (n at : ℕ) (x : Record) → n ≤ at → at < length s → judged (read_at c s at) (judge z) ≡ read.Record x
+  pub run_taken : (z : S) (n at : ℕ) (x : Record) → n ≤ at → at < length s → judged (read_at c s at) (judge z) ≡ read.Record x
       → run_from c judge act s (length s - n) z n at ≡ run_from c judge act s (length s - (n + 1)) (act z x) (n + 1) (at + size_at s at)
-  run-taken z n at x a b e =
-      ap (λ (k : ℕ). run_from c judge act s k z n at) (fuel (length s) n (omega arith)) ∙ run-takes (length s - (n + 1)) z n at x b e
+  run_taken z n at x a b e =
+      ap (λ (k : ℕ). run_from c judge act s k z n at) (fuel (length s) n (omega arith)) ∙ run_takes (length s - (n + 1)) z n at x b e
 
   -- one that is refused
-  pub run-refused : (z : S) (n at : ℕ) (r : Refusal) → n ≤ at → at < length s → judged (read_at c s at) (judge z) ≡ read.Refused r
+  pub run_refused : (z : S) (n at : ℕ) (r : Refusal) → n ≤ at → at < length s → judged (read_at c s at) (judge z) ≡ read.Refused r
       → run_from c judge act s (length s - n) z n at ≡ record { state = z; taken = n; end = end.Refused r at }
   unfolding run_from
-  run-refused z n at r a b e = rw (fuel (length s) n (omega arith), lt-ltb at (length s) b, e)
+  run_refused z n at r a b e = rw (fuel (length s) n (omega arith), lt-ltb at (length s) b, e)
 
 -- A RUN THAT FINISHED -------------------------------------------------------------------------------------------------
 
@@ -70,9 +70,9 @@ module _ {S : Type 0} (c : Call) (judge : S → Record → Verdict) (act : S →
   took_one k z n at l (read.Refused r) q f = absurd (not_finished r at f)
 
   -- it was past the last byte, or took one
-  pub finished-turn : (k : ℕ) (z : S) (n at : ℕ) → (run_from c judge act s (suc k) z n at).end ≡ end.Finished → (length s ≤ at) ⊎ TookOne k z n at
+  pub finished_turn : (k : ℕ) (z : S) (n at : ℕ) → (run_from c judge act s (suc k) z n at).end ≡ end.Finished → (length s ≤ at) ⊎ TookOne k z n at
   unfolding run_from
-  finished-turn k z n at f = go (order (length s) at)
+  finished_turn k z n at f = go (order (length s) at)
     where
       go : (length s ≤ at) ⊎ (at < length s) → (length s ≤ at) ⊎ TookOne k z n at
       go (inl l) = inl l
@@ -92,11 +92,11 @@ module _ {S : Type 0} (P : S → Type 0) where
   module _ (c : Call) (judge : S → Record → Verdict) (act : S → Record → S) (s : List ℕ) (bytes : Bytes s)
       (keeps : (z : S) (x : Record) → P z → RecordOk s x → judge z x ≡ verdict.Taken → P (act z x)) where
     -- what every record that is taken keeps
-    pub run-keeps : (k : ℕ) (z : S) (n at : ℕ) → P z → P (run_from c judge act s k z n at).state
+    pub run_keeps : (k : ℕ) (z : S) (n at : ℕ) → P z → P (run_from c judge act s k z n at).state
     unfolding run_from
-    run-keeps zero z n at p = p
-    run-keeps (suc k) z n at p =
+    run_keeps zero z n at p = p
+    run_keeps (suc k) z n at p =
         cond_keeps (ltb at (length s)) _ _
         (after_keeps (judged (read_at c s at) (judge z)) _ z n at p
-        (λ x e. run-keeps k (act z x) (n + 1) (at + size_at s at) (keeps z x p (judged-record-ok c s at (judge z) x e bytes) (judged_taken (read_at c s at) (judge z) x e))))
+        (λ x e. run_keeps k (act z x) (n + 1) (at + size_at s at) (keeps z x p (judged_record_ok c s at (judge z) x e bytes) (judged_taken (read_at c s at) (judge z) x e))))
         p

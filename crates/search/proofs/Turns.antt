@@ -16,7 +16,7 @@ use lib.Pow.{pow-lt, pow_pos}
 use Rattle.sessions.specs.Set.{cut, has, put}
 use Rattle.sessions.proofs.Members.{cut_lt, has_cut_le, has_cut_other, has_high, has_lt, has_or_not, has_put_other, has_put_same, has_zero, put_lt}
 use Rattle.sessions.proofs.Operations.{has_without}
-use Rattle.sessions.proofs.Walks.{next-below, next-first, next-has}
+use Rattle.sessions.proofs.Walks.{next_below, next_first, next_has}
 use Rattle.search.specs.Crossing.{AllAt, FirstAt, Meets, after_of}
 
 -- THE PATH OF ONE SESSION ---------------------------------------------------------------------------------------------
@@ -65,11 +65,11 @@ pub first_hit : (path : List ℕ) (links left rest t h : ℕ) → 0 < rest → r
     → ((s : ℕ) → s < 32 → has s rest ≤ has s left)
     → h < 8 → has (get_or path (t * 8 + h) 0) links ≡ 1 → Tried path links left rest → FirstAt path left links t
 first_hit path links left rest t h p l q sub k x w =
-    let small = next-below 32 rest t p l q in
+    let small = next_below 32 rest t p l q in
     record {
       at_most = omega arith;
-      none_before = λ s b m. w s (omega arith) m (next-first 32 rest t p l q s b);
-      hit = λ b. (omega (arith, sub t small, has_lt t left, next-has 32 rest t p l q), (h, k, x));
+      none_before = λ s b m. w s (omega arith) m (next_first 32 rest t p l q s b);
+      hit = λ b. (omega (arith, sub t small, has_lt t left, next_has 32 rest t p l q), (h, k, x));
     }
 
 -- THE SESSIONS AFTER THE HIT ------------------------------------------------------------------------------------------

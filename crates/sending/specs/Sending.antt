@@ -44,7 +44,7 @@ unfoldable pub send_all_of : List ℕ → ℕ → Burst → ℕ → List ℕ
 send_all_of w e b to = walk (send_up_of e b) w (members to)
 
 -- the sessions of a set whose path has link e: to no other can link e send. In a table that passes the test of refusal 14 all of them have it
--- (`passes-burst-on-path`); an entry off its session's path can come about only from a handed table with a Join and no Leave behind it of a session
+-- (`passes_burst_on_path`); an entry off its session's path can come about only from a handed table with a Join and no Leave behind it of a session
 -- that has left
 abbrev pub add_on_path : List ℕ → ℕ → ℕ → ℕ → ℕ
 add_on_path w e a r = cond (eqb (hop_of w r e) 0) a (put r a)

@@ -12,15 +12,15 @@ abbrev pub Shown : (ℕ → Type 0) → ℕ → ℕ → ℕ → Type 0
 Shown P k w left = (s : ℕ) → s < k → has s w ≡ 1 → has s left ≡ 0 → P s
 
 module _ (P : ℕ → Type 0) (k w : ℕ) where
-  pub shown-none : Shown P k w w
-  shown-none s l i o = absurd (omega (arith, i, o))
+  pub shown_none : Shown P k w w
+  shown_none s l i o = absurd (omega (arith, i, o))
 
-  pub shown-next : (left s v : ℕ) → v ≡ cut s left → P s → Shown P k w left → Shown P k w v
-  shown-next left s v e p h t l i o = go (ℕ_discrete s t)
+  pub shown_next : (left s v : ℕ) → v ≡ cut s left → P s → Shown P k w left → Shown P k w v
+  shown_next left s v e p h t l i o = go (ℕ_discrete s t)
     where
       go : Dec (s ≡ t) → P t
       go (yes q) = subst P q p
       go (no n) = h t l i (sym (ap (has t) e ∙ has_cut_other s t left n) ∙ o)
 
-  pub shown-all : (left : ℕ) → left ≡ 0 → Shown P k w left → (s : ℕ) → s < k → has s w ≡ 1 → P s
-  shown-all left e h s l i = h s l i (ap (has s) e ∙ has_zero s)
+  pub shown_all : (left : ℕ) → left ≡ 0 → Shown P k w left → (s : ℕ) → s < k → has s w ≡ 1 → P s
+  shown_all left e h s l i = h s l i (ap (has s) e ∙ has_zero s)

@@ -134,21 +134,21 @@ members_length (suc k) b w h =
 
 -- s is the next member of w, and v is what is then left: it is below k, less is left, and the list goes on with the members of v
 module _ (k w s : ℕ) (p : 0 < w) (h : w < 2 ^ k) (e : s ≡ count_trailing_zeros k w) where
-  pub next-below : s < k
-  next-below = rw e (low_lt k w p h)
+  pub next_below : s < k
+  next_below = rw e (low_lt k w p h)
 
-  pub next-has : has s w ≡ 1
-  next-has = rw e (low_has k w p h)
+  pub next_has : has s w ≡ 1
+  next_has = rw e (low_has k w p h)
 
   -- nobody is below it
-  pub next-first : (t : ℕ) → t < s → has t w ≡ 0
-  next-first t l = below_low k w t (rw e at l)
+  pub next_first : (t : ℕ) → t < s → has t w ≡ 0
+  next_first t l = below_low k w t (rw e at l)
 
-  pub next-less : (v : ℕ) → v ≡ cut s w → v < w
-  next-less v f = rw (f, e) (cut_lt (count_trailing_zeros k w) w (low_has k w p h))
+  pub next_less : (v : ℕ) → v ≡ cut s w → v < w
+  next_less v f = rw (f, e) (cut_lt (count_trailing_zeros k w) w (low_has k w p h))
 
-  pub next-members : (v : ℕ) → v ≡ cut s w → members_from k 0 w ≡ s ∷ members_from k 0 v
-  next-members v f = members_low k 0 w p h ∙ rw (f, e, zero-add)
+  pub next_members : (v : ℕ) → v ≡ cut s w → members_from k 0 w ≡ s ∷ members_from k 0 v
+  next_members v f = members_low k 0 w p h ∙ rw (f, e, zero-add)
 
 pub no_members : (k w : ℕ) → w ≡ 0 → members_from k 0 w ≡ []
 no_members k w e = rw (e, members_zero k 0)
@@ -158,7 +158,7 @@ module _ {S : Type 0} (step : S → ℕ → S) (k : ℕ) where
   pub walk_turn : (a x : S) (w s v : ℕ) → 0 < w → w < 2 ^ k → s ≡ count_trailing_zeros k w → v ≡ cut s w → x ≡ step a s
       → walk step a (members_from k 0 w) ≡ walk step x (members_from k 0 v)
   unfolding walk
-  walk_turn a x w s v p h e f g = rw (next-members k w s p h e v f, g)
+  walk_turn a x w s v p h e f g = rw (next_members k w s p h e v f, g)
 
   pub walk_end : (a : S) (w : ℕ) → w ≡ 0 → walk step a (members_from k 0 w) ≡ a
   unfolding walk
@@ -186,9 +186,9 @@ module _ {S : Type 0} (f g : S → ℕ → S) where
       (subst (λ (x : S). walk f x l ≡ walk g (g a b) l) (sym here) (walk_cong_from k (suc b) (w / 2) more (g a b))))
       (two w)
 
-  pub walk-cong : (k w : ℕ) → ((j : ℕ) → j < k → has j w ≡ 1 → (a : S) → f a j ≡ g a j) → (a : S)
+  pub walk_cong : (k w : ℕ) → ((j : ℕ) → j < k → has j w ≡ 1 → (a : S) → f a j ≡ g a j) → (a : S)
       → walk f a (members_from k 0 w) ≡ walk g a (members_from k 0 w)
-  walk-cong k w h a = walk_cong_from k 0 w (λ j l m a. subst (λ (n : ℕ). f a n ≡ g a n) (omega arith) (h j l m a)) a
+  walk_cong k w h a = walk_cong_from k 0 w (λ j l m a. subst (λ (n : ℕ). f a n ≡ g a n) (omega arith) (h j l m a)) a
 
 -- what the steps of the members keep, a loop keeps; what the step of one member makes and every step keeps, it makes
 module _ {S : Type 0} (P : S → Type 0) (step : S → ℕ → S) where
@@ -206,11 +206,11 @@ module _ {S : Type 0} (P : S → Type 0) (step : S → ℕ → S) where
       (walk_keeps_from k (suc b) (w / 2) more (step a b) (subst (λ (n : ℕ). P (step a n)) (omega arith) (h a 0 (omega arith) e p))))
       (two w)
 
-  pub walk-keeps-at : (k w : ℕ) → ((a : S) (j : ℕ) → j < k → has j w ≡ 1 → P a → P (step a j)) → (a : S) → P a → P (walk step a (members_from k 0 w))
-  walk-keeps-at k w h a p = walk_keeps_from k 0 w (λ a j l m q. subst (λ (n : ℕ). P (step a n)) (omega arith) (h a j l m q)) a p
+  pub walk_keeps_at : (k w : ℕ) → ((a : S) (j : ℕ) → j < k → has j w ≡ 1 → P a → P (step a j)) → (a : S) → P a → P (walk step a (members_from k 0 w))
+  walk_keeps_at k w h a p = walk_keeps_from k 0 w (λ a j l m q. subst (λ (n : ℕ). P (step a n)) (omega arith) (h a j l m q)) a p
 
-  pub walk-keeps : (k w : ℕ) → ((a : S) (j : ℕ) → j < k → P a → P (step a j)) → (a : S) → P a → P (walk step a (members_from k 0 w))
-  walk-keeps k w h a p = walk-keeps-at k w (λ a j l m q. h a j l q) a p
+  pub walk_keeps : (k w : ℕ) → ((a : S) (j : ℕ) → j < k → P a → P (step a j)) → (a : S) → P a → P (walk step a (members_from k 0 w))
+  walk_keeps k w h a p = walk_keeps_at k w (λ a j l m q. h a j l q) a p
 
   walk_makes_from : (k b w t : ℕ) → t < k → has t w ≡ 1 → ((a : S) → P (step a (b + t))) → ((a : S) (j : ℕ) → j < k → P a → P (step a (b + j)))
       → (a : S) → P (walk step a (members_from k b w))
@@ -226,8 +226,8 @@ module _ {S : Type 0} (P : S → Type 0) (step : S → ℕ → S) where
       (λ a j i q. subst (λ (n : ℕ). P (step a n)) (omega arith) (h a (suc j) (omega arith) q)) in
       ⊎_elim (λ e. rw (members_even k b w (w / 2) e refl) (later a)) (λ e. rw (members_odd k b w (w / 2) e refl) (later (step a b))) (two w)
 
-  pub walk-makes : (k w t : ℕ) → t < k → has t w ≡ 1 → ((a : S) → P (step a t)) → ((a : S) (j : ℕ) → j < k → P a → P (step a j))
+  pub walk_makes : (k w t : ℕ) → t < k → has t w ≡ 1 → ((a : S) → P (step a t)) → ((a : S) (j : ℕ) → j < k → P a → P (step a j))
       → (a : S) → P (walk step a (members_from k 0 w))
-  walk-makes k w t l m f h =
+  walk_makes k w t l m f h =
       walk_makes_from k 0 w t l m (λ a. subst (λ (n : ℕ). P (step a n)) (omega arith) (f a))
       (λ a j i q. subst (λ (n : ℕ). P (step a n)) (omega arith) (h a j i q))

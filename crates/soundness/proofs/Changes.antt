@@ -22,7 +22,7 @@ use Rattle.links.specs.declared.Place.{Place}
 use Rattle.links.specs.Links.{F, entry, no_entry, rate_at, wait_in, waiting_of, with_entry, with_mu, with_words}
 use Rattle.links.proofs.Sizes.{workable_entry, workable_words}
 use Rattle.sessions.specs.Set.{has}
-use Rattle.sessions.proofs.Walks.{walk-keeps}
+use Rattle.sessions.proofs.Walks.{walk_keeps}
 use Rattle.soundness.specs.Sound.{Held, Over, Sound, weight}
 use Rattle.soundness.proofs.Weights.{weight_le, weight_same, weight_scale}
 
@@ -95,7 +95,7 @@ mu_alike p s m = set_alike p.entries p.entries s m (alike_refl p.entries)
 pub waiting_alike : (p : Place) (w : ℕ) → Alike p.entries (waiting_of p w).entries
 unfolding waiting_of
 waiting_alike p w =
-    walk-keeps (Alike p.entries) wait_in 32 w (λ es s l a. set_alike p.entries es s mu.WaitingProbe a) p.entries (alike_refl p.entries)
+    walk_keeps (Alike p.entries) wait_in 32 w (λ es s l a. set_alike p.entries es s mu.WaitingProbe a) p.entries (alike_refl p.entries)
 
 pub mu_sound : (p : Place) (s : ℕ) (m : Mu) → Sound p → Sound (with_mu p s m)
 mu_sound p s m o = sound_alike p (with_mu p s m).entries o (mu_alike p s m)

@@ -27,10 +27,10 @@ use Rattle.links.specs.Links.{B, F, add_if, is_fine, rate_at, some_of, those_of}
 use Rattle.records.proofs.Somes.{clash, not_so}
 use Rattle.sessions.specs.Set.{has, put}
 use Rattle.sessions.proofs.Members.{has_lt, has_put_other, has_put_same}
-use Rattle.sessions.proofs.Walks.{low_has, low_lt, walk-keeps}
+use Rattle.sessions.proofs.Walks.{low_has, low_lt, walk_keeps}
 use Rattle.soundness.specs.Sound.{weight}
-use Rattle.soundness.proofs.Chosen.{has-those-le, those-lt, those-out}
-use Rattle.soundness.proofs.Weights.{walk-adds, weight_at, weight_le, weight_put}
+use Rattle.soundness.proofs.Chosen.{has_those_le, those_lt, those_out}
+use Rattle.soundness.proofs.Weights.{walk_adds, weight_at, weight_le, weight_put}
 
 -- line 5: ∃ s ∈ F : λ_s ≥ B
 abbrev pub line5 : Place → Bool
@@ -59,8 +59,8 @@ some_member a es w t = go (eqb-false (those_of a es w) 0 (not_true (eqb (those_o
         let v = those_of a es w in
         let s = count_trailing_zeros 32 v in (
           s,
-          low_lt 32 v (omega arith) (those-lt a es w),
-          omega (arith, low_has 32 v (omega arith) (those-lt a es w), has-those-le a es w s, has_lt s w),
+          low_lt 32 v (omega arith) (those_lt a es w),
+          omega (arith, low_has 32 v (omega arith) (those_lt a es w), has_those_le a es w s, has_lt s w),
         )
 
 -- the highest rate so far: 0 before the first member, and then that of a member
@@ -78,7 +78,7 @@ module _ (p : Place) where
   highest_of_lem : (s : ℕ) → s < 32 → has s (F p) ≡ 1 → OfMember p (highest_of p)
   unfolding highest_of
   highest_of_lem s l h =
-      go (walk-adds SoFar (λ m j. higher_of m (rate_at p j)) (λ j. 1) (F p) (λ j k i m n q. inr (higher_of_lem j k i m n q)) zero_of 0 (inl (refl, refl)))
+      go (walk_adds SoFar (λ m j. higher_of m (rate_at p j)) (λ j. 1) (F p) (λ j k i m n q. inr (higher_of_lem j k i m n q)) zero_of 0 (inl (refl, refl)))
     where
       go : SoFar (highest_of p) (0 + weight (F p) (λ j. 1)) → OfMember p (highest_of p)
       go (inl e) = absurd (omega (arith, e.0, weight_at (F p) s (λ j. 1) l h))
@@ -108,8 +108,8 @@ turn_less p t =
     let m = highest_of_lem p s.0 s.1 s.2 in
     let other = wanted.Other (highest_of p) in
     count_less (those_of other p.entries (F p)) (F p) m.who m.low m.member
-    (those-out other p.entries (F p) m.who (λ h f. not_other (rate_at p m.who) (highest_of p) m.rate f))
-    (has-those-le other p.entries (F p))
+    (those_out other p.entries (F p) m.who (λ h f. not_other (rate_at p m.who) (highest_of p) m.rate f))
+    (has_those_le other p.entries (F p))
   where
     not_other : (x y : Rate) → x ≡ y → not (same_of x y) ≡ true → ⊥
     not_other x y e f = clash (same_of x y) (true_same e) (not_true (same_of x y) f)
@@ -168,7 +168,7 @@ stage_check (turned {q} g t) = sym (loop_turns q t) ∙ stage_check g
 -- no rate compares with a B that is too fine, so line 5 does not hold there
 none_at_too_fine : (es : List Entry) (w : ℕ) → those_of (wanted.AtLeast bound.TooFine) es w ≡ 0
 unfolding those_of
-none_at_too_fine es w = walk-keeps (λ v. v ≡ 0) (add_if (wanted.AtLeast bound.TooFine) es) 32 w (λ v s l e. e) 0 refl
+none_at_too_fine es w = walk_keeps (λ v. v ≡ 0) (add_if (wanted.AtLeast bound.TooFine) es) 32 w (λ v s l e. e) 0 refl
 
 too_fine_stops : (p : Place) → is_fine (B p) ≡ false → line5 p ≡ false
 too_fine_stops p = go (B p)

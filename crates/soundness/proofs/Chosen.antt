@@ -18,8 +18,8 @@ use Rattle.links.specs.Links.{add_if, meets_of, no_entry, those_of}
 use Rattle.records.proofs.Somes.{clash}
 use Rattle.sessions.specs.Set.{has, put}
 use Rattle.sessions.proofs.Members.{has_lt, has_or_not, has_put_other, has_put_same, has_zero, put_lt}
-use Rattle.sessions.proofs.Walks.{walk-keeps}
-use Rattle.soundness.proofs.Weights.{walk-adds, weight_at}
+use Rattle.sessions.proofs.Walks.{walk_keeps}
+use Rattle.soundness.proofs.Weights.{walk_adds, weight_at}
 
 module _ (a : Wanted) (es : List Entry) where
   abbrev meets : ℕ → Bool
@@ -29,17 +29,17 @@ module _ (a : Wanted) (es : List Entry) where
   add_other : (w s j : ℕ) → (j ≡ s → ⊥) → has s (add_if a es w j) ≡ has s w
   add_other w s j n = cases (λ (v : ℕ). has s v ≡ has s w) (meets j) (put j w) w (λ e. has_put_other j s w n) (λ e. refl)
 
-  pub those-lt : (w : ℕ) → those_of a es w < 2 ^ 32
+  pub those_lt : (w : ℕ) → those_of a es w < 2 ^ 32
   unfolding those_of
-  those-lt w =
-      walk-keeps (λ v. v < 2 ^ 32) (add_if a es) 32 w
+  those_lt w =
+      walk_keeps (λ v. v < 2 ^ 32) (add_if a es) 32 w
       (λ v s l h. cases (λ (u : ℕ). u < 2 ^ 32) (meets s) (put s v) v (λ e. put_lt 32 s v l h) (λ e. h))
       0 (lit≤ tt)
 
   -- nobody who is no member, or whose entry does not meet it
-  pub those-out : (w s : ℕ) → (has s w ≡ 1 → meets s ≡ true → ⊥) → has s (those_of a es w) ≡ 0
+  pub those_out : (w s : ℕ) → (has s w ≡ 1 → meets s ≡ true → ⊥) → has s (those_of a es w) ≡ 0
   unfolding those_of
-  those-out w s n = walk-adds (λ v m. has s v ≡ 0) (add_if a es) (λ j. 0) w (λ j l h v m e. go j h v e (ℕ_discrete j s)) 0 0 (has_zero s)
+  those_out w s n = walk_adds (λ v m. has s v ≡ 0) (add_if a es) (λ j. 0) w (λ j l h v m e. go j h v e (ℕ_discrete j s)) 0 0 (has_zero s)
     where
       go : (j : ℕ) → has j w ≡ 1 → (v : ℕ) → has s v ≡ 0 → Dec (j ≡ s) → has s (add_if a es v j) ≡ 0
       go j h v e (yes q) =
@@ -51,7 +51,7 @@ module _ (a : Wanted) (es : List Entry) where
   those_in : (w s : ℕ) → s < 32 → has s w ≡ 1 → meets s ≡ true → has s (those_of a es w) ≡ 1
   unfolding those_of
   those_in w s l h f =
-      walk-adds (λ v m. 0 < m → has s v ≡ 1) (add_if a es) times w (λ j k i v m e. go j v m e (ℕ_discrete j s)) 0 0 (λ k. absurd (omega arith))
+      walk_adds (λ v m. 0 < m → has s v ≡ 1) (add_if a es) times w (λ j k i v m e. go j v m e (ℕ_discrete j s)) 0 0 (λ k. absurd (omega arith))
       (omega (arith, weight_at w s times l h, once))
     where
       times : ℕ → ℕ
@@ -66,19 +66,19 @@ module _ (a : Wanted) (es : List Entry) where
           let z : times j ≡ 0 = rw (ne_eqb j s q) refl in
           add_other v s j q ∙ e (omega (arith, z))
 
-  pub has-those : (w s : ℕ) → s < 32 → has s (those_of a es w) ≡ cond (meets s) (has s w) 0
-  has-those w s l =
+  pub has_those : (w s : ℕ) → s < 32 → has s (those_of a es w) ≡ cond (meets s) (has s w) 0
+  has_those w s l =
       cases (λ (d : ℕ). has s (those_of a es w) ≡ d) (meets s) (has s w) 0
       (λ e. go e (has_or_not s w))
-      (λ e. those-out w s (λ h f. clash (meets s) f e))
+      (λ e. those_out w s (λ h f. clash (meets s) f e))
     where
       go : meets s ≡ true → (has s w ≡ 0) ⊎ (has s w ≡ 1) → has s (those_of a es w) ≡ has s w
-      go e (inl h) = those-out w s (λ k f. omega arith) ∙ sym h
+      go e (inl h) = those_out w s (λ k f. omega arith) ∙ sym h
       go e (inr h) = those_in w s l h e ∙ sym h
 
-  pub has-those-le : (w s : ℕ) → has s (those_of a es w) ≤ has s w
-  has-those-le w s = go (has_or_not s w)
+  pub has_those_le : (w s : ℕ) → has s (those_of a es w) ≤ has s w
+  has_those_le w s = go (has_or_not s w)
     where
       go : (has s w ≡ 0) ⊎ (has s w ≡ 1) → has s (those_of a es w) ≤ has s w
-      go (inl h) = omega (arith, those-out w s (λ k f. omega arith))
+      go (inl h) = omega (arith, those_out w s (λ k f. omega arith))
       go (inr h) = omega (arith, has_lt s (those_of a es w))

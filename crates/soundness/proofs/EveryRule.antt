@@ -16,28 +16,28 @@ use Rattle.soundness.specs.LinkDid.{LinkDid}
 use Rattle.soundness.specs.Sound.{Sound}
 use Rattle.soundness.proofs.Holding.{holds_held, not_held}
 use Rattle.sessions.proofs.Members.{is_in}
-use Rattle.soundness.proofs.Leaving.{did_leave, did-set}
-use Rattle.soundness.proofs.Restricting.{did-join, did-probe}
-use Rattle.soundness.proofs.Rules.{did_bottleneck, did-drop, did_nothing, did_response, did_update}
+use Rattle.soundness.proofs.Leaving.{did_leave, did_set}
+use Rattle.soundness.proofs.Restricting.{did_join, did_probe}
+use Rattle.soundness.proofs.Rules.{did_bottleneck, did_drop, did_nothing, did_response, did_update}
 
 pub did_link : (e s : ℕ) (k : Kind) (p : Place) → e < 64 → s < 32 → Sound p → KindWithin k → LinkDid s k p (link_step_of e s k p)
 unfolding link_step_of
 did_link e s (kind.Join x η) p le ls z w =
-    cases (LinkDid s (kind.Join x η) p) (holds p s) _ _ (λ h. did-drop s (kind.Join x η) p z refl true) (λ h. did-join e s x η p le ls z w h)
+    cases (LinkDid s (kind.Join x η) p) (holds p s) _ _ (λ h. did_drop s (kind.Join x η) p z refl true) (λ h. did_join e s x η p le ls z w h)
 did_link e s (kind.Probe x η) p le ls z w =
-    cases (LinkDid s (kind.Probe x η) p) (holds p s) _ _ (λ h. did-probe e s x η p le ls z w) (λ h. did-drop s (kind.Probe x η) p z refl true)
+    cases (LinkDid s (kind.Probe x η) p) (holds p s) _ _ (λ h. did_probe e s x η p le ls z w) (λ h. did_drop s (kind.Probe x η) p z refl true)
 did_link e s (kind.Response τ x η) p le ls z w =
     cases (LinkDid s (kind.Response τ x η) p) (in_r p s && awaits_response (mu_at p s)) _ _
     (λ h. did_response e s τ x η p le ls z w (omega (arith, is_in (R p) s (and_both (in_r p s) (awaits_response (mu_at p s)) h).0, z.apart s)))
-    (λ h. did-drop s (kind.Response τ x η) p z refl true)
+    (λ h. did_drop s (kind.Response τ x η) p z refl true)
 did_link e s kind.Update p le ls z w =
-    cases (LinkDid s kind.Update p) (holds p s) _ _ (λ h. did_update s p z) (λ h. did-drop s kind.Update p z refl true)
+    cases (LinkDid s kind.Update p) (holds p s) _ _ (λ h. did_update s p z) (λ h. did_drop s kind.Update p z refl true)
 did_link e s kind.Bottleneck p le ls z w =
-    cases (LinkDid s kind.Bottleneck p) (holds p s) _ _ (λ h. did_bottleneck s p z) (λ h. did-drop s kind.Bottleneck p z refl true)
+    cases (LinkDid s kind.Bottleneck p) (holds p s) _ _ (λ h. did_bottleneck s p z) (λ h. did_drop s kind.Bottleneck p z refl true)
 did_link e s (kind.SetBottleneck β) p le ls z w =
     cases (LinkDid s (kind.SetBottleneck β) p) (holds p s) _ _
-    (λ h. did-set s β p ls z (holds_held p s h))
-    (λ h. did-drop s (kind.SetBottleneck β) p z refl true)
+    (λ h. did_set s β p ls z (holds_held p s h))
+    (λ h. did_drop s (kind.SetBottleneck β) p z refl true)
 did_link e s kind.Leave p le ls z w =
     cases (LinkDid s kind.Leave p) (holds p s) _ _
     (λ h. did_leave s p ls z)

@@ -21,9 +21,9 @@ use Rattle.tasks.specs.Figure2.{freed_of, idle_at_b, leave_of, quiet, set_bottle
 use Rattle.soundness.specs.LinkDid.{LinkDid, PassedOn}
 use Rattle.soundness.specs.Sound.{Held, Sound}
 use Rattle.soundness.proofs.Changes.{sound_entry, sound_words, zero_within}
-use Rattle.soundness.proofs.Chosen.{has-those-le, those-lt}
+use Rattle.soundness.proofs.Chosen.{has_those_le, those_lt}
 use Rattle.soundness.proofs.Holding.{cut_again, move_all, put_again}
-use Rattle.soundness.proofs.Rules.{did-drop, did_nothing, did_updating, no_leave}
+use Rattle.soundness.proofs.Rules.{did_drop, did_nothing, did_updating, no_leave}
 use Rattle.soundness.proofs.Shares.{sound_free}
 
 -- SETBOTTLENECK -------------------------------------------------------------------------------------------------------
@@ -55,17 +55,17 @@ module _ (s : ℕ) (β : Bool) (p : Place) (l : s < 32) (z : Sound p) (h : Held 
       did_updating s setting p q (idle_at_b (B p) p (R p)) (onward.Send setting) (is_fine (B q)) (free_sound p s l z h e) refl
       (λ r i. inl (record { some = omega (arith, all r, i.some) }))
       (no_leave setting refl)
-      (those-lt (wanted.IdleAt (B p)) p.entries (R p))
-      (λ r i. record { some = omega (arith, all r, has-those-le (wanted.IdleAt (B p)) p.entries (R p) r, i) })
+      (those_lt (wanted.IdleAt (B p)) p.entries (R p))
+      (λ r i. record { some = omega (arith, all r, has_those_le (wanted.IdleAt (B p)) p.entries (R p) r, i) })
       (passed β)
       (λ t. t)
 
   did_stay : (γ fine : Bool) → LinkDid s setting p (quiet p (onward.Send (kind.SetBottleneck γ)) fine)
   did_stay γ fine = did_nothing s setting p (onward.Send (kind.SetBottleneck γ)) fine z (no_leave setting refl) (passed γ)
 
-  pub did-set : LinkDid s setting p (set_bottleneck_of s β p)
+  pub did_set : LinkDid s setting p (set_bottleneck_of s β p)
   unfolding set_bottleneck_of
-  did-set =
+  did_set =
       cases (LinkDid s setting p) (all_at_b (B p) p) _ _ (λ e. did_stay true (is_fine (B p)))
       (λ e.
       cases (LinkDid s setting p) (below_b (B p) (rate_at p s) && is_idle (mu_at p s)) _ _
@@ -73,7 +73,7 @@ module _ (s : ℕ) (β : Bool) (p : Place) (l : s < 32) (z : Sound p) (h : Held 
       (λ f.
       cases (LinkDid s setting p) (is_idle (mu_at p s) && equals_b (B p) (rate_at p s)) _ _
       (λ g. did_stay β (is_fine (B p)))
-      (λ g. did-drop s setting p z refl (is_fine (B p)))))
+      (λ g. did_drop s setting p z refl (is_fine (B p)))))
 
 -- LEAVE ---------------------------------------------------------------------------------------------------------------
 
@@ -129,7 +129,7 @@ did_leave s p l z =
     did_updating s kind.Leave p q (idle_at_b (B p) p (cut s (R p))) (onward.Send kind.Leave) (is_fine (B p) && is_fine (B q)) w.sound w.capacity
     (λ r h. inl (w.fewer r h))
     (λ t h. w.gone h)
-    (those-lt (wanted.IdleAt (B p)) p.entries (cut s (R p)))
-    (λ r h. w.stays r (omega (arith, h, has-those-le (wanted.IdleAt (B p)) p.entries (cut s (R p)) r, has_lt r (cut s (R p)))))
+    (those_lt (wanted.IdleAt (B p)) p.entries (cut s (R p)))
+    (λ r h. w.stays r (omega (arith, h, has_those_le (wanted.IdleAt (B p)) p.entries (cut s (R p)) r, has_lt r (cut s (R p)))))
     (record { within = tt; way = refl; leave = refl; join = refl })
     (λ t. (and_both (is_fine (B p)) (is_fine (B q)) t).1)

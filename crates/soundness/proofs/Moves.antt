@@ -21,7 +21,7 @@ use Rattle.sessions.proofs.Members.{has_high}
 use Rattle.sessions.proofs.Operations.{has_or}
 use Rattle.soundness.specs.Sound.{Sound}
 use Rattle.soundness.proofs.Changes.{sound_words}
-use Rattle.soundness.proofs.Chosen.{has-those, has-those-le, those-lt}
+use Rattle.soundness.proofs.Chosen.{has_those, has_those_le, those_lt}
 
 -- q is p but that sessions may have gone from F to R
 pub record Moved (p q : Place) : Type 0 where
@@ -66,13 +66,13 @@ split es m r f hr hf a s = go (order 32 s)
     go (inl b) =
         omega (
           arith,
-          has_high 32 s (bit_or r (those_of (wanted.Equal m) es f)) (or_lt 32 r (those_of (wanted.Equal m) es f) hr (those-lt (wanted.Equal m) es f)) b,
-          has_high 32 s (those_of (wanted.Other m) es f) (those-lt (wanted.Other m) es f) b,
+          has_high 32 s (bit_or r (those_of (wanted.Equal m) es f)) (or_lt 32 r (those_of (wanted.Equal m) es f) hr (those_lt (wanted.Equal m) es f)) b,
+          has_high 32 s (those_of (wanted.Other m) es f) (those_lt (wanted.Other m) es f) b,
           has_high 32 s r hr b,
           has_high 32 s f hf b,
         )
     go (inr l) =
-        rw (has_or s r (those_of (wanted.Equal m) es f), has-those (wanted.Equal m) es f s l, has-those (wanted.Other m) es f s l)
+        rw (has_or s r (those_of (wanted.Equal m) es f), has_those (wanted.Equal m) es f s l, has_those (wanted.Other m) es f s l)
         (digits (same_of (get_or es s no_entry).rate m) (has s r) (has s f) (a s))
 
 pub turn_moved : (p : Place) → Sound p → Moved p (turn_of p)
@@ -82,10 +82,10 @@ turn_moved p o =
     record {
       entries = refl;
       capacity = refl;
-      r32 = or_lt 32 (R p) (those_of (wanted.Equal m) p.entries (F p)) o.r32 (those-lt (wanted.Equal m) p.entries (F p));
-      f32 = those-lt (wanted.Other m) p.entries (F p);
+      r32 = or_lt 32 (R p) (those_of (wanted.Equal m) p.entries (F p)) o.r32 (those_lt (wanted.Equal m) p.entries (F p));
+      f32 = those_lt (wanted.Other m) p.entries (F p);
       all = split p.entries m (R p) (F p) o.r32 o.f32 o.apart;
-      less = has-those-le (wanted.Other m) p.entries (F p);
+      less = has_those_le (wanted.Other m) p.entries (F p);
     }
 
 pub check_moved : (k : ℕ) (p : Place) → Sound p → Moved p (check_of k p)

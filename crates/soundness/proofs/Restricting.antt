@@ -31,10 +31,10 @@ use Rattle.tasks.specs.Packets.{is_leave}
 use Rattle.soundness.specs.LinkDid.{LinkDid, PassedOn, is_join}
 use Rattle.soundness.specs.Sound.{Held, Sound}
 use Rattle.soundness.proofs.Changes.{mu_sound, rate_same, sound_entry, sound_words, zero_within}
-use Rattle.soundness.proofs.Chosen.{has-those-le, those-lt}
+use Rattle.soundness.proofs.Chosen.{has_those_le, those_lt}
 use Rattle.soundness.proofs.Holding.{move_all, not_held}
 use Rattle.soundness.proofs.Moves.{check_moved, sound_moved}
-use Rattle.soundness.proofs.Rules.{did-mu, did_updating, no_leave}
+use Rattle.soundness.proofs.Rules.{did_mu, did_updating, no_leave}
 use Rattle.soundness.proofs.Shares.{b_within}
 
 -- A PACKET'S RATE -----------------------------------------------------------------------------------------------------
@@ -70,8 +70,8 @@ did_process s k j p v z c h n w =
     did_updating s k p q (over_b q) (onward.Send j) (is_fine (B q)) (sound_moved v q z m) (m.capacity ∙ c)
     (λ r i. h r (record { some = omega (arith, m.all r, i.some) }))
     (no_leave k n)
-    (those-lt (wanted.IdleAbove (B q)) q.entries (R q))
-    (λ r i. record { some = omega (arith, i, has-those-le (wanted.IdleAbove (B q)) q.entries (R q) r) })
+    (those_lt (wanted.IdleAbove (B q)) q.entries (R q))
+    (λ r i. record { some = omega (arith, i, has_those_le (wanted.IdleAbove (B q)) q.entries (R q) r) })
     w
     (λ t. t)
 
@@ -106,9 +106,9 @@ module _ (e s : ℕ) (x : Rate) (η : Eta) (p : Place) (le : e < 64) (ls : s < 3
       go (yes q) = inr (sym q, refl)
       go (no d) = inl (record { some = omega (arith, h.some, has_put_other s r (R p) d) })
 
-  pub did-join : LinkDid s (kind.Join x η) p (join_of e s x η p)
+  pub did_join : LinkDid s (kind.Join x η) p (join_of e s x η p)
   unfolding join_of
-  did-join =
+  did_join =
       let b = (process_of joining).bound in
       did_process s (kind.Join x η) (kind.Join (lowered_of b x) (named_of b x e η)) p joining joining_sound refl joining_held refl
       (record {
@@ -155,9 +155,9 @@ module _ (e s : ℕ) (x : Rate) (η : Eta) (p : Place) (le : e < 64) (ls : s < 3
   unfolding staying_of
   did_staying =
       let b = B probing in
-      did-mu s (kind.Probe x η) p z refl mu.WaitingResponse (onward.Send (kind.Probe (lowered_of b x) (named_of b x e η))) (is_fine b)
+      did_mu s (kind.Probe x η) p z refl mu.WaitingResponse (onward.Send (kind.Probe (lowered_of b x) (named_of b x e η))) (is_fine b)
       (passed b (λ c q. b_within probing c (mu_sound p s mu.WaitingResponse z) q))
 
-  pub did-probe : LinkDid s (kind.Probe x η) p (probe_of e s x η p)
+  pub did_probe : LinkDid s (kind.Probe x η) p (probe_of e s x η p)
   unfolding probe_of
-  did-probe = cases (LinkDid s (kind.Probe x η) p) (in_f p s) _ _ (λ f. did_restricted (is_in (F p) s f)) (λ f. did_staying)
+  did_probe = cases (LinkDid s (kind.Probe x η) p) (in_f p s) _ _ (λ f. did_restricted (is_in (F p) s f)) (λ f. did_staying)

@@ -33,7 +33,7 @@ use Rattle.tasks.specs.Packets.{is_leave}
 use Rattle.soundness.specs.LinkDid.{GoesOn, LinkDid, PassedOn, is_join}
 use Rattle.soundness.specs.Sound.{Held, Sound}
 use Rattle.soundness.proofs.Changes.{mu_alike, mu_sound, rate_other, sound_entry, sound_waiting, with_entries}
-use Rattle.soundness.proofs.Shares.{B-alike, B-waiting}
+use Rattle.soundness.proofs.Shares.{b_alike, b_waiting}
 
 -- the rates of F's members are as they were
 abbrev pub SameF : Place → List Entry → Type 0
@@ -56,7 +56,7 @@ did_quiet s k p es o fine z a g w = record {
   few = lit≤ tt;
   to = λ r h. absurd (omega (arith, has_zero r));
   on = w;
-  fine = λ t h. subst (λ (b : Bound). is_fine b ≡ true) (sym (B-alike p es a)) h;
+  fine = λ t h. subst (λ (b : Bound). is_fine b ≡ true) (sym (b_alike p es a)) h;
 }
 
 -- one that leaves the link as it is
@@ -82,26 +82,26 @@ did_updating s k p q w o fine z c h g l u v f = record {
   few = l;
   to = λ r i. record { some = (u r i).some };
   on = v;
-  fine = λ t i. subst (λ (b : Bound). is_fine b ≡ true) (sym (B-waiting q w)) (f t);
+  fine = λ t i. subst (λ (b : Bound). is_fine b ≡ true) (sym (b_waiting q w)) (f t);
 }
 
 -- UPDATE, BOTTLENECK --------------------------------------------------------------------------------------------------
 
 -- a state changes, and no rate
 module _ (s : ℕ) (k : Kind) (p : Place) (z : Sound p) (n : is_leave k ≡ false) where
-  pub did-mu : (m : Mu) (o : Onward) (fine : Bool) → GoesOn k o → LinkDid s k p (quiet (with_mu p s m) o fine)
-  did-mu m o fine w =
+  pub did_mu : (m : Mu) (o : Onward) (fine : Bool) → GoesOn k o → LinkDid s k p (quiet (with_mu p s m) o fine)
+  did_mu m o fine w =
       did_quiet s k p (with_mu p s m).entries o fine (mu_sound p s m z) (λ r l h. (mu_alike p s m).same r) (no_leave k n) w
 
-  pub did-drop : (fine : Bool) → LinkDid s k p (quiet p onward.Nothing fine)
-  did-drop fine = did_nothing s k p onward.Nothing fine z (no_leave k n) n
+  pub did_drop : (fine : Bool) → LinkDid s k p (quiet p onward.Nothing fine)
+  did_drop fine = did_nothing s k p onward.Nothing fine z (no_leave k n) n
 
 pub did_update : (s : ℕ) (p : Place) → Sound p → LinkDid s kind.Update p (update_of s p)
 unfolding update_of
 did_update s p z =
     cases (LinkDid s kind.Update p) (is_idle (mu_at p s)) _ _
-    (λ e. did-mu s kind.Update p z refl mu.WaitingProbe (onward.Send kind.Update) true (record { within = tt; way = refl; leave = refl; join = refl }))
-    (λ e. did-drop s kind.Update p z refl true)
+    (λ e. did_mu s kind.Update p z refl mu.WaitingProbe (onward.Send kind.Update) true (record { within = tt; way = refl; leave = refl; join = refl }))
+    (λ e. did_drop s kind.Update p z refl true)
 
 pub did_bottleneck : (s : ℕ) (p : Place) → Sound p → LinkDid s kind.Bottleneck p (bottleneck_of s p)
 unfolding bottleneck_of
@@ -110,7 +110,7 @@ did_bottleneck s p z =
     (λ e.
     did_nothing s kind.Bottleneck p (onward.Send kind.Bottleneck) true z (no_leave kind.Bottleneck refl)
     (record { within = tt; way = refl; leave = refl; join = refl }))
-    (λ e. did-drop s kind.Bottleneck p z refl true)
+    (λ e. did_drop s kind.Bottleneck p z refl true)
 
 -- RESPONSE ------------------------------------------------------------------------------------------------------------
 
@@ -136,7 +136,7 @@ module _ (e s : ℕ) (τ : Tau) (x : Rate) (η : Eta) (p : Place) (le : e < 64) 
         few = omega (arith, cut_le s (R p), o.r32);
         to = λ r h. record { some = omega (arith, has_cut_le r s (R p)) };
         on = record { within = (w.0, le); way = refl; leave = refl; join = refl };
-        fine = λ u h. subst (λ (b : Bound). is_fine b ≡ true) (sym (B-alike p es a)) h;
+        fine = λ u h. subst (λ (b : Bound). is_fine b ≡ true) (sym (b_alike p es a)) h;
       })
       (λ t. did_quiet s here p es (onward.Send (kind.Response σ x η)) (is_fine b) o a (no_leave here refl) (passed σ))
 
@@ -153,7 +153,7 @@ pub did_response : (e s : ℕ) (τ : Tau) (x : Rate) (η : Eta) (p : Place) → 
     → LinkDid s (kind.Response τ x η) p (response_of e s τ x η p)
 unfolding response_of
 did_response e s tau.Update x η p le ls z w n =
-    did-mu s (kind.Response tau.Update x η) p z refl mu.WaitingProbe (onward.Send (kind.Response tau.Update x η)) true
+    did_mu s (kind.Response tau.Update x η) p z refl mu.WaitingProbe (onward.Send (kind.Response tau.Update x η)) true
     (record { within = w; way = refl; leave = refl; join = refl })
 did_response e s tau.Response x η p le ls z w n = did_agreed e s tau.Response x η p le ls z w n tau.Response
 did_response e s tau.Bottleneck x η p le ls z w n = did_agreed e s tau.Bottleneck x η p le ls z w n tau.Bottleneck

@@ -28,10 +28,10 @@ use Rattle.links.specs.Links.{B, F, R, TotalSized, as_bound, below_b, bound_of, 
 use Rattle.links.proofs.Sizes.{sum_sized, workable_words}
 use Rattle.sessions.specs.Set.{cut, has, put, size_of}
 use Rattle.sessions.proofs.Members.{cut_le, has_cut_other, has_cut_same, has_put_other, has_put_same, put_lt}
-use Rattle.sessions.proofs.Walks.{walk-cong}
+use Rattle.sessions.proofs.Walks.{walk_cong}
 use Rattle.soundness.specs.Sound.{Over, Sound, weight}
 use Rattle.soundness.proofs.Changes.{waiting_alike, with_entries}
-use Rattle.soundness.proofs.Weights.{Comes, member_size, members-weigh, past-weigh, weight_put}
+use Rattle.soundness.proofs.Weights.{Comes, member_size, members_weigh, past_weigh, weight_put}
 
 -- THE SUM OF F --------------------------------------------------------------------------------------------------------
 
@@ -45,28 +45,28 @@ comes : (N : ℕ) (x : ℕ → ℕ) (p : Place) → Sound p → Over N x p.entri
 comes N x p o c s l h = record { pos = (o.workable.rates.sized s l).pos; same = c.shown s l }
 
 pub sum_weighs : (N : ℕ) (x : ℕ → ℕ) (p : Place) (y : Rate) → Sound p → Over N x p.entries → sum_of p ≡ total.Rate y → Comes N y (weight (F p) x)
-sum_weighs N x p y o c e = members-weigh N x p c.pos (comes N x p o c) y e
+sum_weighs N x p y o c e = members_weigh N x p c.pos (comes N x p o c) y e
 
 -- F never sums past C
 pub sound_not_past : (p : Place) → Sound p → sum_of p ≡ total.PastC → ⊥
 sound_not_past p o e =
     let g = over_one p o in
-    omega (arith, past-weigh g.0 g.1 p g.2.pos (comes g.0 g.1 p o g.2) e, o.fits g.0 g.1 g.2)
+    omega (arith, past_weigh g.0 g.1 p g.2.pos (comes g.0 g.1 p o g.2) e, o.fits g.0 g.1 g.2)
 
 -- B GOES BY THE WORDS AND THE RATES OF F ------------------------------------------------------------------------------
 
-pub B-alike : (p : Place) (es : List Entry) → ((s : ℕ) → s < 32 → has s (F p) ≡ 1 → (get_or es s no_entry).rate ≡ rate_at p s)
+pub b_alike : (p : Place) (es : List Entry) → ((s : ℕ) → s < 32 → has s (F p) ≡ 1 → (get_or es s no_entry).rate ≡ rate_at p s)
     → B (with_entries p es) ≡ B p
 unfolding B sum_of
-B-alike p es h =
+b_alike p es h =
     let C = p.link.capacity in
     ap (bound_of C (size_of (R p)))
-    (walk-cong (λ a s. more_of C a (get_or es s no_entry).rate) (λ a s. more_of C a (rate_at p s)) 32 (F p)
+    (walk_cong (λ a s. more_of C a (get_or es s no_entry).rate) (λ a s. more_of C a (rate_at p s)) 32 (F p)
     (λ s l m a. ap (more_of C a) (h s l m)) (total.Rate zero_of))
 
-pub B-waiting : (p : Place) (w : ℕ) → B (waiting_of p w) ≡ B p
+pub b_waiting : (p : Place) (w : ℕ) → B (waiting_of p w) ≡ B p
 unfolding waiting_of
-B-waiting p w = B-alike p (waiting_of p w).entries (λ s l m. (waiting_alike p w).same s)
+b_waiting p w = b_alike p (waiting_of p w).entries (λ s l m. (waiting_alike p w).same s)
 
 -- B IS A SHARE --------------------------------------------------------------------------------------------------------
 

@@ -31,8 +31,8 @@ use Rattle.tasks.specs.declared.Kind.TheVariants as kind
 use Rattle.tasks.specs.Figure2.{join_of, link_step_of, probe_of, restricted_of, staying_of}
 use Rattle.soundness.specs.ProbeCycle.{Waiting}
 use Rattle.soundness.specs.Sound.{Sound}
-use Rattle.soundness.proofs.Chosen.{those-out}
-use Rattle.soundness.proofs.Weights.{walk-adds}
+use Rattle.soundness.proofs.Chosen.{those_out}
+use Rattle.soundness.proofs.Weights.{walk_adds}
 
 -- a Join is taken where the link does not hold the session (h is whether it does), a Probe where it does
 abbrev pub starts_to_wait : Kind → Bool → Bool
@@ -65,7 +65,7 @@ not_idle mu.WaitingResponse e f = clash false f refl
 -- sessions other than r are made to wait for a probe
 entries_still : (es : List Entry) (w r : ℕ) → has r w ≡ 0 → get_or (walk wait_in es (members w)) r no_entry ≡ get_or es r no_entry
 entries_still es w r n =
-    walk-adds (λ fs m. get_or fs r no_entry ≡ get_or es r no_entry) wait_in (λ j. 0) w
+    walk_adds (λ fs m. get_or fs r no_entry ≡ get_or es r no_entry) wait_in (λ j. 0) w
     (λ j l h fs m e. get_or-set_other fs j r _ no_entry (λ q. omega (arith, n, subst (λ (i : ℕ). has i w ≡ 1) (sym q) h)) ∙ e)
     es 0 refl
 
@@ -77,12 +77,12 @@ waiting_still p w r n h = still p (waiting_of p w) r (omega arith) (entries_stil
 module _ (p : Place) (r w : ℕ) (h : Waiting p r) (b : Bound) where
   not_above : has r (those_of (wanted.IdleAbove b) p.entries w) ≡ 0
   not_above =
-      those-out (wanted.IdleAbove b) p.entries w r
+      those_out (wanted.IdleAbove b) p.entries w r
       (λ k m. not_idle (mu_at p r) h.awaits (and_both (is_idle (mu_at p r)) (above_b b (rate_at p r)) m).0)
 
   pub not_at : has r (those_of (wanted.IdleAt b) p.entries w) ≡ 0
   not_at =
-      those-out (wanted.IdleAt b) p.entries w r
+      those_out (wanted.IdleAt b) p.entries w r
       (λ k m. not_idle (mu_at p r) h.awaits (and_both (is_idle (mu_at p r)) (equals_b b (rate_at p r)) m).0)
 
 -- the F check takes nobody out of R

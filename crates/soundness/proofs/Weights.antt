@@ -112,10 +112,10 @@ module _ {S : Type 0} (P : S → ℕ → Type 0) (step : S → ℕ → S) (x : �
           (subst (P _) (omega (arith, first, rest, z, ap (λ (i : ℕ). i * x (b + 0)) e))
           (ih (step a b) (n + x b) (subst (λ (i : ℕ). P (step a i) (n + x i)) (omega arith) (h 0 (omega arith) e a n p))))
 
-  pub walk-adds : (w : ℕ) → ((j : ℕ) → j < 32 → has j w ≡ 1 → (a : S) (n : ℕ) → P a n → P (step a j) (n + x j))
+  pub walk_adds : (w : ℕ) → ((j : ℕ) → j < 32 → has j w ≡ 1 → (a : S) (n : ℕ) → P a n → P (step a j) (n + x j))
       → (a : S) (n : ℕ) → P a n → P (walk step a (members_from 32 0 w)) (n + weight w x)
   unfolding weight
-  walk-adds w h a n p =
+  walk_adds w h a n p =
       subst (λ (m : ℕ). P (walk step a (members_from 32 0 w)) (n + m))
       (sum_eq 32 (λ j. has j w * x (0 + j)) (λ j. has j w * x j) (λ j l. ap (λ (i : ℕ). has j w * x i) (omega arith)))
       (walk_adds_from 32 0 w (λ j l m a n q. subst (λ (i : ℕ). P (step a i) (n + x i)) (omega arith) (h j l m a n q)) a n p)
@@ -171,21 +171,21 @@ module _ (N : ℕ) (x : ℕ → ℕ) (p : Place) (h : 0 < N) (c : (s : ℕ) → 
   sum_stands =
       let C = p.link.capacity in
       subst (Stands C N (sum_of p)) {x = 0 + weight (F p) x} {y = weight (F p) x} (omega arith)
-      (walk-adds (Stands C N) (λ a s. more_of C a (rate_at p s)) x (F p)
+      (walk_adds (Stands C N) (λ a s. more_of C a (rate_at p s)) x (F p)
       (λ s l m a n q. more_stands C N n (x s) a (rate_at p s) h q (c s l m))
       (total.Rate zero_of) 0 (record { pos = lit≤ tt; same = record { cross = omega arith } }))
 
   -- where the sum of F is a rate, it is what F's members weigh
-  pub members-weigh : (y : Rate) → sum_of p ≡ total.Rate y → Comes N y (weight (F p) x)
-  members-weigh y e = subst (λ (t : Total). Stands p.link.capacity N t (weight (F p) x)) e sum_stands
+  pub members_weigh : (y : Rate) → sum_of p ≡ total.Rate y → Comes N y (weight (F p) x)
+  members_weigh y e = subst (λ (t : Total). Stands p.link.capacity N t (weight (F p) x)) e sum_stands
 
   -- and as it is then at most C, they weigh at most C
-  pub members-within : (y : Rate) → Workable p → sum_of p ≡ total.Rate y → weight (F p) x ≤ N * p.link.capacity
-  members-within y work e =
-      let i = members-weigh y e in
+  pub members_within : (y : Rate) → Workable p → sum_of p ≡ total.Rate y → weight (F p) x ≤ N * p.link.capacity
+  members_within y work e =
+      let i = members_weigh y e in
       let z : Sized p.link.capacity y = subst (TotalSized p.link.capacity) e (sum_sized p work) in
       le_of_mul-le-mul_right {k = y.den} (omega (arith, i.same.cross, mul-le-mul_right N z.num)) i.pos
 
   -- and where it is past C, they weigh more than C
-  pub past-weigh : sum_of p ≡ total.PastC → N * p.link.capacity < weight (F p) x
-  past-weigh e = subst (λ (t : Total). Stands p.link.capacity N t (weight (F p) x)) e sum_stands
+  pub past_weigh : sum_of p ≡ total.PastC → N * p.link.capacity < weight (F p) x
+  past_weigh e = subst (λ (t : Total). Stands p.link.capacity N t (weight (F p) x)) e sum_stands

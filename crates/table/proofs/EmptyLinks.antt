@@ -13,23 +13,23 @@ use Rattle.sessions.proofs.Members.{has_zero}
 use Rattle.table.specs.Words.{empty_words, place_of, source_of}
 use Rattle.table.proofs.Empty.{empty_link, empty_source}
 
-pub empty-R : (e : ℕ) → R (place_of empty_words e) ≡ 0
-empty-R e = ap (λ (l : Link). l.r) (empty_link e)
+pub empty_r : (e : ℕ) → R (place_of empty_words e) ≡ 0
+empty_r e = ap (λ (l : Link). l.r) (empty_link e)
 
-pub empty-F : (e : ℕ) → F (place_of empty_words e) ≡ 0
-empty-F e = ap (λ (l : Link). l.f) (empty_link e)
+pub empty_f : (e : ℕ) → F (place_of empty_words e) ≡ 0
+empty_f e = ap (λ (l : Link). l.f) (empty_link e)
 
-pub none_in-R : (e s : ℕ) → in_r (place_of empty_words e) s ≡ false
-none_in-R e s = rw (empty-R e, has_zero s)
+pub none_in_r : (e s : ℕ) → in_r (place_of empty_words e) s ≡ false
+none_in_r e s = rw (empty_r e, has_zero s)
 
-pub none_in-F : (e s : ℕ) → in_f (place_of empty_words e) s ≡ false
-none_in-F e s = rw (empty-F e, has_zero s)
+pub none_in_f : (e s : ℕ) → in_f (place_of empty_words e) s ≡ false
+none_in_f e s = rw (empty_f e, has_zero s)
 
 pub none_held : (e s : ℕ) → holds (place_of empty_words e) s ≡ false
-none_held e s = rw (empty-R e, empty-F e, has_zero s)
+none_held e s = rw (empty_r e, empty_f e, has_zero s)
 
 pub none_active : (s : ℕ) → (source_of empty_words s).active ≡ false
 none_active s = ap (λ (z : Source). z.active) (empty_source s)
 
 pub empty_sum : (e : ℕ) → sum_of (place_of empty_words e) ≡ total.Rate zero_of
-empty_sum e = sum_none (place_of empty_words e) (empty-F e)
+empty_sum e = sum_none (place_of empty_words e) (empty_f e)

@@ -21,17 +21,17 @@ abbrev pub held_word : List ℕ → ℕ → ℕ
 held_word w e = bit_or (link_of w e).r (link_of w e).f
 
 module _ (w : List ℕ) (e : ℕ) where
-  pub held-is : (s : ℕ) → has_of s (held_word w e) ≡ holds (place_of w e) s
-  held-is s = in_either s (link_of w e).r (link_of w e).f
+  pub held_is : (s : ℕ) → has_of s (held_word w e) ≡ holds (place_of w e) s
+  held_is s = in_either s (link_of w e).r (link_of w e).f
 
   -- a session that is no member is in neither R nor F
-  pub out-of-both : (s : ℕ) → has s (held_word w e) ≡ 0 → (in_r (place_of w e) s ≡ false) × (in_f (place_of w e) s ≡ false)
-  out-of-both s o =
-      or_false (has_of s (link_of w e).r) (has_of s (link_of w e).f) (sym (held-is s) ∙ ap (λ (d : ℕ). eqb d 1) o)
+  pub out_of_both : (s : ℕ) → has s (held_word w e) ≡ 0 → (in_r (place_of w e) s ≡ false) × (in_f (place_of w e) s ≡ false)
+  out_of_both s o =
+      or_false (has_of s (link_of w e).r) (has_of s (link_of w e).f) (sym (held_is s) ∙ ap (λ (d : ℕ). eqb d 1) o)
 
   module _ (z : held_word w e ≡ 0) where
     pub nobody_held : (s : ℕ) → (in_r (place_of w e) s ≡ false) × (in_f (place_of w e) s ≡ false)
-    nobody_held s = out-of-both s (ap (has s) z ∙ has_zero s)
+    nobody_held s = out_of_both s (ap (has s) z ∙ has_zero s)
 
-    pub none-summed : sum_of (place_of w e) ≡ total.Rate zero_of
-    none-summed = sum_none (place_of w e) (nobody 32 (link_of w e).f (f_below w e) (λ s l. (nobody_held s).1))
+    pub none_summed : sum_of (place_of w e) ≡ total.Rate zero_of
+    none_summed = sum_none (place_of w e) (nobody 32 (link_of w e).f (f_below w e) (λ s l. (nobody_held s).1))

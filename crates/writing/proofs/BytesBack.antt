@@ -19,14 +19,14 @@ use Rattle.records.specs.declared.End.TheVariants as end
 use Rattle.records.specs.declared.Read.TheVariants as read
 use Rattle.records.specs.declared.Record.{Record}
 use Rattle.records.specs.declared.Record.TheVariants as rec
-use Rattle.records.proofs.ReadRecords.{judged_read, judged-record-ends, judged-record-ok}
-use Rattle.records.proofs.Runs.{TookOne, finished-turn, run_end, run-takes}
+use Rattle.records.proofs.ReadRecords.{judged_read, judged_record_ends, judged_record_ok}
+use Rattle.records.proofs.Runs.{TookOne, finished_turn, run_end, run_takes}
 use Rattle.declarations.specs.Declaring.{declarations_of, declare_of, judging, none_declared}
 use Rattle.declarations.specs.declared.Declared.{Declared}
 use Rattle.declarations.proofs.KeepsLengths.{none_lengths}
 use Rattle.writing.specs.Order.{in_order, rises_from}
 use Rattle.writing.specs.Writing.{records_of}
-use Rattle.writing.proofs.Rests.{Open, Rest, link-open, link-rest, rest_end, session-open, session-rest}
+use Rattle.writing.proofs.Rests.{Open, Rest, link_open, link_rest, rest_end, session_open, session_rest}
 use Rattle.writing.proofs.ReadShapes.{IsLink, IsSession, link_bytes, read_shape, session_bytes}
 
 -- ANY RECORD ----------------------------------------------------------------------------------------------------------
@@ -34,7 +34,7 @@ use Rattle.writing.proofs.ReadShapes.{IsLink, IsSession, link_bytes, read_shape,
 module _ (s : List ℕ) (bytes : Bytes s) (z : Declared) (low at : ℕ) (o : Open z low) (x : Record)
     (taken : judged (read_at call.Calculation s at) (judging s z) ≡ read.Record x) (rises : low ≤ be2 s at) where
   ends : at + size_at s at ≤ length s
-  ends = judged-record-ends call.Calculation s at (judging s z) x taken
+  ends = judged_record_ends call.Calculation s at (judging s z) x taken
 
   key : (k : ℕ) → get_or s at 0 ≡ k → be2 s at ≡ k * 256 + get_or s (at + 1) 0
   unfolding be2
@@ -45,7 +45,7 @@ module _ (s : List ℕ) (bytes : Bytes s) (z : Declared) (low at : ℕ) (o : Ope
   size k e = ap (λ (v : ℕ). 1 + body_of v) e
 
   ok : RecordOk s x
-  ok = judged-record-ok call.Calculation s at (judging s z) x taken bytes
+  ok = judged_record_ok call.Calculation s at (judging s z) x taken bytes
 
   open_as : (y : Record) (q : ℕ) → x ≡ y → be2 s at + 1 ≡ q → Open (declare_of s z y) q → Open (declare_of s z x) (be2 s at + 1)
   open_as y q e f h =
@@ -70,9 +70,9 @@ module _ (s : List ℕ) (bytes : Bytes s) (z : Declared) (low at : ℕ) (o : Ope
       let g : at + size_at s at ≡ at + 6 = ap (λ (v : ℕ). at + v) (size 1 k.kind) in
       let fits : RecordOk s (rec.Link e c) = subst (RecordOk s) k.what ok in
       let low-e : low ≤ 256 + e = omega (arith, key 1 k.kind) in (
-        open_as (rec.Link e c) (257 + e) k.what f (link-open s z low at e c fits.0 low-e o),
+        open_as (rec.Link e c) (257 + e) k.what f (link_open s z low at e c fits.0 low-e o),
         λ d r.
-            link-rest s z low at e c fits.0 low-e o d (rest_as d (rec.Link e c) (257 + e) (at + 6) k.what f g r)
+            link_rest s z low at e c fits.0 low-e o d (rest_as d (rec.Link e c) (257 + e) (at + 6) k.what f g r)
             (link_bytes s at bytes k.kind (omega (arith, ends, g))),
       )
 
@@ -88,9 +88,9 @@ module _ (s : List ℕ) (bytes : Bytes s) (z : Declared) (low at : ℕ) (o : Ope
       let g : at + size_at s at ≡ at + 19 = ap (λ (v : ℕ). at + v) (size 2 k.kind) in
       let fits : RecordOk s (rec.Session t a m n (at + 11)) = subst (RecordOk s) k.what ok in
       let low-t : low ≤ 512 + t = omega (arith, key 2 k.kind) in (
-        open_as y (513 + t) k.what f (session-open s z low at t a m n fits.0 low-t o),
+        open_as y (513 + t) k.what f (session_open s z low at t a m n fits.0 low-t o),
         λ d r.
-            session-rest s z low at t a m n fits.0 low-t o d fits.4 (rest_as d y (513 + t) (at + 19) k.what f g r)
+            session_rest s z low at t a m n fits.0 low-t o d fits.4 (rest_as d y (513 + t) (at + 19) k.what f g r)
             (session_bytes s at bytes k.kind (omega (arith, ends, g))),
       )
 
@@ -116,7 +116,7 @@ module _ (s : List ℕ) (bytes : Bytes s) where
       → Rest s z (run k z n at).state low at
   unfolding run_from rises_from
   back_from zero z n at low h o e r = rest_end s z low at (omega arith) o
-  back_from (suc k) z n at low h o e r = go (finished-turn call.Calculation (judging s) (declare_of s) s k z n at e) r (λ y m p q. back_from k y m p q)
+  back_from (suc k) z n at low h o e r = go (finished_turn call.Calculation (judging s) (declare_of s) s k z n at e) r (λ y m p q. back_from k y m p q)
     where
       go : (length s ≤ at) ⊎ TookOne call.Calculation (judging s) (declare_of s) s k z n at
           → cond (ltb at (length s)) (leb low (be2 s at) && rises_from k s (at + size_at s at) (be2 s at + 1)) true ≡ true
@@ -128,7 +128,7 @@ module _ (s : List ℕ) (bytes : Bytes s) where
       go (inr t) g again =
           let b = and_both (leb low (be2 s at)) _ (rw (lt-ltb at (length s) t.within) at g) in
           let a = record_after s bytes z low at o t.what t.taken (leb-true _ _ b.0) in
-          subst (λ (x : Ran Declared). Rest s z x.state low at) (sym (run-takes call.Calculation (judging s) (declare_of s) s k z n at t.what t.within t.taken))
+          subst (λ (x : Ran Declared). Rest s z x.state low at) (sym (run_takes call.Calculation (judging s) (declare_of s) s k z n at t.what t.within t.taken))
           (a.1 _ (again (declare_of s z t.what) (n + 1) (at + size_at s at) (be2 s at + 1) (omega (arith, some s at)) a.0 t.rest b.1))
 
 open_none : Open none_declared 0

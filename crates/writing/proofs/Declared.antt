@@ -23,7 +23,7 @@ use Rattle.records.proofs.PathBytes.{path_same}
 use Rattle.records.proofs.Rates.{rate_passes}
 use Rattle.records.proofs.ReadRecords.{path_size_lem}
 use Rattle.records.proofs.Refused.{not_taken}
-use Rattle.records.proofs.Runs.{run-keeps}
+use Rattle.records.proofs.Runs.{run_keeps}
 use Rattle.declarations.specs.Declaring.{copied, declarations_of, declare_of, judge_of, judging, none_declared, path_declared}
 use Rattle.declarations.specs.declared.Declared.{Declared}
 use Rattle.declarations.proofs.Copied.{copied_other, copied_there}
@@ -189,4 +189,4 @@ record_kept s d (rec.Deliver p) k r t = absurd (not_taken refusal.KindNotTaken t
 -- what an input declares, up to its end or to the record that is refused, can be declared
 pub declarations_declarable : (s : List ℕ) → Bytes s → Declarable (declarations_of s).declared
 unfolding declarations_of
-declarations_declarable s bytes = (run-keeps Kept call.Calculation (judging s) (declare_of s) s bytes (record_kept s) (length s) none_declared 0 0 none_kept).ok
+declarations_declarable s bytes = (run_keeps Kept call.Calculation (judging s) (declare_of s) s bytes (record_kept s) (length s) none_declared 0 0 none_kept).ok

@@ -62,9 +62,9 @@ module _ (d z : Declared) (r : SameSet d z) where
       values_same 0 8 (byte_at d.path t) (byte_at z.path t) (λ j k. r.path t h m j (omega arith)) in
       rw (r.access t h m, r.maximum t h m, size_same d.path z.path t t (r.path t h m), path) refl
 
-  pub same-output : records_of d ≡ records_of z
+  pub same_output : records_of d ≡ records_of z
   unfolding records_of
-  same-output =
+  same_output =
       ap₂ ◌++◌
       (records_same 64 0 (λ e. has_of e d.links) (λ e. has_of e z.links) (link_from d.capacity) (link_from z.capacity) (λ e. ap (has_of e) r.links) (λ e h t. links_same e (omega arith) t))
       (records_same 32 0 (λ t. has_of t d.sessions) (λ t. has_of t z.sessions) (session_from d.access d.maximum d.path) (session_from z.access z.maximum z.path) (λ t. ap (has_of t) r.sessions) (λ t h i. sessions_same t (omega arith) i))

@@ -15,7 +15,7 @@ use Rattle.sessions.specs.Set.{cut, has, has_of}
 use Rattle.sessions.proofs.Members.{cut_le, has_cut_other, has_cut_same, has_or_not, has_zero}
 use Rattle.writing.specs.Writing.{records_from}
 use Rattle.writing.proofs.Laying.{sets_then}
-use Rattle.writing.proofs.MoreRecords.{records-fewer, records-more, records-none, records_same}
+use Rattle.writing.proofs.MoreRecords.{records_fewer, records_more, records_none, records_same}
 
 -- in w, and no longer left
 abbrev pub done : ℕ → ℕ → ℕ → Bool
@@ -40,7 +40,7 @@ module _ (k : ℕ) (f : ℕ → List ℕ) (w : ℕ) (l : List ℕ) (from : ℕ) 
   -- all are left
   pub laid_none : w < 2 ^ k → Laid k f w w l from from l
   laid_none h =
-      let e : records_from k 0 (done w w) f ≡ [] = records-none f k 0 (done w w) (λ i p q. not_done w w i (λ a b. omega (arith, a, b))) in
+      let e : records_from k 0 (done w w) f ≡ [] = records_none f k 0 (done w w) (λ i p q. not_done w w i (λ a b. omega (arith, a, b))) in
       record {
         word = h;
         part = λ i m. m;
@@ -53,7 +53,7 @@ module _ (k : ℕ) (f : ℕ → List ℕ) (w : ℕ) (l : List ℕ) (from : ℕ) 
       (lowest : (i : ℕ) → i < e → has i left ≡ 0) where
     records_next : records_from k 0 (done w (cut e left)) f ≡ records_from k 0 (done w left) f ++ f e
     records_next =
-        records-more f k 0 e (done w left) (done w (cut e left)) (omega arith) (omega arith)
+        records_more f k 0 e (done w left) (done w (cut e left)) (omega arith) (omega arith)
         (λ i h. ap (λ (v : ℕ). has_of i w && not (eqb v 1)) (has_cut_other e i left (λ q. omega (arith, q))))
         (λ i h. not_done w left i (λ a b. omega (arith, h, r.below e i here a b)))
         (rw (r.part e here, has_cut_same e left) refl)
@@ -62,19 +62,19 @@ module _ (k : ℕ) (f : ℕ → List ℕ) (w : ℕ) (l : List ℕ) (from : ℕ) 
         (λ a b. omega (arith, h, r.below e i here a (sym (has_cut_other e i left (λ q. omega (arith, q))) ∙ b))))
 
     -- the next record fits, where all fit
-    pub laid-fits : at + length (f e) ≤ from + length (records_from k 0 (λ i. has_of i w) f)
-    laid-fits =
+    pub laid_fits : at + length (f e) ≤ from + length (records_from k 0 (λ i. has_of i w) f)
+    laid_fits =
         omega (
           arith,
           r.place,
           ap length records_next,
           length-append (records_from k 0 (done w left) f) (f e),
-          records-fewer f k 0 (done w (cut e left)) (λ i. has_of i w) (λ i t. (and_both (has_of i w) _ t).0),
+          records_fewer f k 0 (done w (cut e left)) (λ i. has_of i w) (λ i t. (and_both (has_of i w) _ t).0),
         )
 
     -- one record more
-    pub laid-turn : (v : ℕ) → v ≡ cut e left → (out' : List ℕ) → out' ≡ sets out at (f e) → Laid k f w v l from (at + length (f e)) out'
-    laid-turn v q out' o =
+    pub laid_turn : (v : ℕ) → v ≡ cut e left → (out' : List ℕ) → out' ≡ sets out at (f e) → Laid k f w v l from (at + length (f e)) out'
+    laid_turn v q out' o =
         subst (λ (y : ℕ). Laid k f w y l from (at + length (f e)) out') (sym q)
         (record {
           word = omega (arith, cut_le e left, r.word);
@@ -107,8 +107,8 @@ module _ (k : ℕ) (f : ℕ → List ℕ) (w : ℕ) (l : List ℕ) (from : ℕ) 
         below i j a b c (yes s) p = omega (arith, s, above i a p (order i e))
 
   -- none is left
-  pub laid-all : (left at : ℕ) (out : List ℕ) → left ≡ 0 → Laid k f w left l from at out → out ≡ sets l from (records_from k 0 (λ i. has_of i w) f)
-  laid-all left at out z r =
+  pub laid_all : (left at : ℕ) (out : List ℕ) → left ≡ 0 → Laid k f w left l from at out → out ≡ sets l from (records_from k 0 (λ i. has_of i w) f)
+  laid_all left at out z r =
       r.bytes ∙ ap (sets l from) (records_same k 0 (done w left) (λ i. has_of i w) f f (λ i. all i (has_or_not i w)) (λ i h t. refl))
     where
       all : (i : ℕ) → (has i w ≡ 0) ⊎ (has i w ≡ 1) → done w left i ≡ has_of i w

@@ -33,18 +33,18 @@ module _ (l : List ℕ) (at t a m n : ℕ) (path : ℕ → ℕ) where
   abbrev third : List ℕ
   third = sets second (at + 6) (bytes4 m)
 
-  pub first-long : length first ≡ length l
-  first-long = length-set (set l at 2) (at + 1) t ∙ length-set l at 2
+  pub first_long : length first ≡ length l
+  first_long = length-set (set l at 2) (at + 1) t ∙ length-set l at 2
 
-  pub second-long : length second ≡ length l
-  second-long = length-sets first (at + 2) (bytes4 a) ∙ first-long
+  pub second_long : length second ≡ length l
+  second_long = length-sets first (at + 2) (bytes4 a) ∙ first_long
 
-  pub third-long : length third ≡ length l
-  third-long = length-sets second (at + 6) (bytes4 m) ∙ second-long
+  pub third_long : length third ≡ length l
+  third_long = length-sets second (at + 6) (bytes4 m) ∙ second_long
 
-  pub session-laid : sets (set third (at + 10) n) (at + 11) (values 0 8 path) ≡ sets l at (session_record t a m n path)
+  pub session_laid : sets (set third (at + 10) n) (at + 11) (values 0 8 path) ≡ sets l at (session_record t a m n path)
   unfolding values
-  session-laid =
+  session_laid =
       let tail : List ℕ = n ∷ values 0 8 path in
       let one : suc at ≡ at + 1 = omega arith in
       let two : suc (suc at) ≡ at + 2 = omega arith in

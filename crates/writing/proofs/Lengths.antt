@@ -42,11 +42,11 @@ unfolding values
 sessions_long sessions access maximum path = records_long 32 sessions (session_from access maximum path) 19 (λ t. refl)
 
 module _ (d : Declared) where
-  pub output-long : length (records_of d) ≡ ones_in 64 d.links * 6 + ones_in 32 d.sessions * 19
+  pub output_long : length (records_of d) ≡ ones_in 64 d.links * 6 + ones_in 32 d.sessions * 19
   unfolding records_of
-  output-long =
+  output_long =
       length-append (link_records d.links d.capacity) (session_records d.sessions d.access d.maximum d.path)
       ∙ ap₂ ◌+◌ (links_long d.links d.capacity) (sessions_long d.sessions d.access d.maximum d.path)
 
-  pub output-most : length (records_of d) ≤ 992
-  output-most = omega (arith, output-long, count_most 64 d.links, count_most 32 d.sessions)
+  pub output_most : length (records_of d) ≤ 992
+  output_most = omega (arith, output_long, count_most 64 d.links, count_most 32 d.sessions)

@@ -11,41 +11,41 @@ use Rattle.fractions.proofs.Cases.{order}
 use Rattle.writing.specs.Writing.{records_from}
 
 module _ (f : ℕ → List ℕ) where
-  pub records-none : (k b : ℕ) (test : ℕ → Bool) → ((i : ℕ) → b ≤ i → i < b + k → test i ≡ false) → records_from k b test f ≡ []
+  pub records_none : (k b : ℕ) (test : ℕ → Bool) → ((i : ℕ) → b ≤ i → i < b + k → test i ≡ false) → records_from k b test f ≡ []
   unfolding records_from
-  records-none zero b test none = refl
-  records-none (suc k) b test none = rw (none b (omega arith) (omega arith)) (records-none k (suc b) test (λ i h l. none i (omega arith) (omega arith)))
+  records_none zero b test none = refl
+  records_none (suc k) b test none = rw (none b (omega arith) (omega arith)) (records_none k (suc b) test (λ i h l. none i (omega arith) (omega arith)))
 
   -- u is test with e, and none above e passes: the record of e comes last
-  pub records-more : (k b e : ℕ) (test u : ℕ → Bool) → b ≤ e → e < b + k → ((i : ℕ) → i < e → u i ≡ test i) → ((i : ℕ) → e ≤ i → test i ≡ false)
+  pub records_more : (k b e : ℕ) (test u : ℕ → Bool) → b ≤ e → e < b + k → ((i : ℕ) → i < e → u i ≡ test i) → ((i : ℕ) → e ≤ i → test i ≡ false)
       → u e ≡ true → ((i : ℕ) → e < i → u i ≡ false) → records_from k b u f ≡ records_from k b test f ++ f e
   unfolding records_from
-  records-more zero b e test u h l same none here above = absurd (omega arith)
-  records-more (suc k) b e test u h l same none here above =
-      go (order e b) (λ p. records-more k (suc b) e test u p (omega arith) same none here above)
+  records_more zero b e test u h l same none here above = absurd (omega arith)
+  records_more (suc k) b e test u h l same none here above =
+      go (order e b) (λ p. records_more k (suc b) e test u p (omega arith) same none here above)
     where
       go : (e ≤ b) ⊎ (b < e) → (suc b ≤ e → records_from k (suc b) u f ≡ records_from k (suc b) test f ++ f e)
           → cond (u b) (f b) [] ++ records_from k (suc b) u f ≡ (cond (test b) (f b) [] ++ records_from k (suc b) test f) ++ f e
       go (inl p) more =
           let q : e ≡ b = omega arith in
           let yes-here : u b ≡ true = ap u (sym q) ∙ here in
-          let rest : records_from k (suc b) u f ≡ [] = records-none k (suc b) u (λ i r m. above i (omega arith)) in
-          let old : records_from k (suc b) test f ≡ [] = records-none k (suc b) test (λ i r m. none i (omega arith)) in
+          let rest : records_from k (suc b) u f ≡ [] = records_none k (suc b) u (λ i r m. above i (omega arith)) in
+          let old : records_from k (suc b) test f ≡ [] = records_none k (suc b) test (λ i r m. none i (omega arith)) in
           rw (yes-here, rest, none b (omega arith), old, q) (append-nil (f b))
       go (inr p) more =
           rw (same b p, more (omega arith)) (sym (append_assoc (cond (test b) (f b) []) (records_from k (suc b) test f) (f e)))
 
   -- more pass: no fewer bytes
-  pub records-fewer : (k b : ℕ) (test u : ℕ → Bool) → ((i : ℕ) → test i ≡ true → u i ≡ true) → length (records_from k b test f) ≤ length (records_from k b u f)
+  pub records_fewer : (k b : ℕ) (test u : ℕ → Bool) → ((i : ℕ) → test i ≡ true → u i ≡ true) → length (records_from k b test f) ≤ length (records_from k b u f)
   unfolding records_from
-  records-fewer zero b test u h = omega arith
-  records-fewer (suc k) b test u h =
+  records_fewer zero b test u h = omega arith
+  records_fewer (suc k) b test u h =
       omega (
         arith,
         length-append (cond (test b) (f b) []) (records_from k (suc b) test f),
         length-append (cond (u b) (f b) []) (records_from k (suc b) u f),
         one (test b) (u b) (h b),
-        records-fewer k (suc b) test u h,
+        records_fewer k (suc b) test u h,
       )
     where
       one : (t v : Bool) → (t ≡ true → v ≡ true) → length (cond t (f b) []) ≤ length (cond v (f b) [])

@@ -70,9 +70,9 @@ module _ (d : Declared) (ok : Declarable d) where
       (one_more n path (omega arith)
       (values_below 0 8 (byte_at d.path t) 256 (omega arith) (λ j l. path_byte_lem d.path (t * 8) n (ok.path t h m) j (omega arith)))))))
 
-  pub output-bytes : Bytes (records_of d)
+  pub output_bytes : Bytes (records_of d)
   unfolding records_of
-  output-bytes =
+  output_bytes =
       both (link_records d.links d.capacity) (session_records d.sessions d.access d.maximum d.path)
       (records_bytes 64 0 (λ e. has_of e d.links) (link_from d.capacity) (λ e h t. link_bytes e (omega arith) t))
       (records_bytes 32 0 (λ t. has_of t d.sessions) (session_from d.access d.maximum d.path) (λ t h i. session_bytes t (omega arith) i))

@@ -15,7 +15,7 @@ use Rattle.declarations.specs.declared.Declared.{Declared}
 use Rattle.writing.specs.Order.{in_order, rises_from}
 use Rattle.writing.specs.Writing.{link_from, link_records, path_size, records_from, records_of, session_from, session_records}
 use Rattle.writing.proofs.Appending.{Stands, stands}
-use Rattle.writing.proofs.ReadRecords.{link-size, session-size}
+use Rattle.writing.proofs.ReadRecords.{link_size, session_size}
 
 -- from a place on, after n records, kind and number rise from `low`
 abbrev Rises : List ℕ → ℕ → ℕ → ℕ → Type 0
@@ -85,13 +85,13 @@ output_in_order d =
     (rises_over s 1 64 (λ e. has_of e d.links) (link_from d.capacity)
     (λ b before behind e.
     let there = stands s before (link_from d.capacity b) behind e in
-    (key_of s (length before) 1 b (link_from d.capacity b) there (omega arith) refl refl, link-size s (length before) b (get_or d.capacity b 0) there, omega arith))
+    (key_of s (length before) 1 b (link_from d.capacity b) there (omega arith) refl refl, link_size s (length before) b (get_or d.capacity b 0) there, omega arith))
     64 0 0 [] sessions 0 (omega arith) (omega arith) refl
     (λ m next p q.
     rises_over s 2 32 (λ t. has_of t d.sessions) (session_from d.access d.maximum d.path)
     (λ b before behind e.
     let there = stands s before (session_from d.access d.maximum d.path b) behind e in
-    (key_of s (length before) 2 b (session_from d.access d.maximum d.path b) there (omega arith) refl refl, session-size s (length before) b (get_or d.access b 0) (get_or d.maximum b 0) (path_size d.path b) (byte_at d.path b) there, omega arith))
+    (key_of s (length before) 2 b (session_from d.access d.maximum d.path b) there (omega arith) refl refl, session_size s (length before) b (get_or d.access b 0) (get_or d.maximum b 0) (path_size d.path b) (byte_at d.path b) there, omega arith))
     32 0 m links [] next p (omega arith) (ap (λ (l : List ℕ). links ++ l) (sym (append-nil sessions)))
     (λ i y g h. rises_end s i (length s) y (omega arith))))
   where

@@ -27,8 +27,8 @@ use Rattle.declarations.proofs.KeepsLengths.{Lengths, declare_lengths, none_leng
 use Rattle.writing.specs.Sets.{Declarable, SameSet}
 use Rattle.writing.specs.Writing.{link_from, link_records, path_size, records_of, session_from, session_records}
 use Rattle.writing.proofs.Appending.{stands}
-use Rattle.writing.proofs.ReadRecords.{link-read, link-size, session-path, session-read, session-size}
-use Rattle.writing.proofs.RunOver.{Taken, run-both}
+use Rattle.writing.proofs.ReadRecords.{link_read, link_size, session_path, session_read, session_size}
+use Rattle.writing.proofs.RunOver.{Taken, run_both}
 
 -- what is written for b, and stays for those below it
 set_old : (l m : List ℕ) (b v t : ℕ) → b < length l → v ≡ get_or m b 0 → (t < b) ⊎ (t ≡ b) → (t < b → get_or m t 0 ≡ get_or l t 0) → get_or m t 0 ≡ get_or (set l b v) t 0
@@ -102,8 +102,8 @@ module _ (d : Declared) (ok : Declarable d) (s : List ℕ) where
       let out = out_is z.links b (r.new b (omega arith)) in
       record {
         what = rec.Link b capacity;
-        taken = rw (link-read s (length before) b capacity there call.Calculation h (ok.capacity b h m), out) refl;
-        long = link-size s (length before) b capacity there;
+        taken = rw (link_read s (length before) b capacity there call.Calculation h (ok.capacity b h m), out) refl;
+        long = link_size s (length before) b capacity there;
         some = omega arith;
         fits = there.fits;
         next = links_next b z h m r;
@@ -195,7 +195,7 @@ module _ (d : Declared) (ok : Declarable d) (s : List ℕ) where
       let access = get_or d.access b 0 in
       let maximum = get_or d.maximum b 0 in
       let size = path_size d.path b in
-      let bytes = session-path s at b access maximum size (byte_at d.path b) there in
+      let bytes = session_path s at b access maximum size (byte_at d.path b) there in
       let small = (path_size_lem d.path (b * 8) size (ok.path b h m)).1 in
       let path = path_same s (at + 11) d.path (b * 8) bytes size small ∙ ok.path b h m in
       let out = out_is z.sessions b (r.new b (omega arith)) in
@@ -205,8 +205,8 @@ module _ (d : Declared) (ok : Declarable d) (s : List ℕ) where
       ∙ ok.declared b h m in
       record {
         what = rec.Session b access maximum size (at + 11);
-        taken = rw (session-read s at b access maximum size (byte_at d.path b) there call.Calculation h (ok.access b h m) (ok.maximum b h m) path, out, ok.line b h m, known) refl;
-        long = session-size s at b access maximum size (byte_at d.path b) there;
+        taken = rw (session_read s at b access maximum size (byte_at d.path b) there call.Calculation h (ok.access b h m) (ok.maximum b h m) path, out, ok.line b h m, known) refl;
+        long = session_size s at b access maximum size (byte_at d.path b) there;
         some = omega arith;
         fits = there.fits;
         next = sessions_next b (at + 11) z h m r bytes;
@@ -232,7 +232,7 @@ unfolding declarations_of records_of values
 read_back d ok =
     let s = link_records d.links d.capacity ++ session_records d.sessions d.access d.maximum d.path in
     let r =
-    run-both call.Calculation (judging s) (declare_of s) (LinksRead d) (SessionsRead d) 64 32 (λ e. has_of e d.links) (λ t. has_of t d.sessions)
+    run_both call.Calculation (judging s) (declare_of s) (LinksRead d) (SessionsRead d) 64 32 (λ e. has_of e d.links) (λ t. has_of t d.sessions)
     (link_from d.capacity) (session_from d.access d.maximum d.path) (links_turn d ok s) (links_skip d) (sessions_turn d ok s) (sessions_skip d)
     (λ z. links_done d z ok) none_declared (none_read d) in
     (r.end, sessions_done d _ ok r.inv)

@@ -47,13 +47,13 @@ module _ (s : List ℕ) (at e capacity : ℕ) (there : Stands s at (link_record 
   link_kind : get_or s at 0 ≡ 1
   link_kind = there.byte 0 (omega arith) at (omega arith)
 
-  pub link-size : size_at s at ≡ 6
+  pub link_size : size_at s at ≡ 6
   unfolding size_at body_of
-  link-size = ap (λ (k : ℕ). 1 + body_of k) link_kind
+  link_size = ap (λ (k : ℕ). 1 + body_of k) link_kind
 
-  pub link-read : (c : Call) → e < 64 → rate_ok capacity ≡ true → read_at c s at ≡ read.Record (rec.Link e capacity)
+  pub link_read : (c : Call) → e < 64 → rate_ok capacity ≡ true → read_at c s at ≡ read.Record (rec.Link e capacity)
   unfolding read_at body_at link_at
-  link-read c h r =
+  link_read c h r =
       let number : get_or s (at + 1) 0 ≡ e = there.byte 1 (omega arith) (at + 1) refl in
       let b2 : get_or s (at + 2) 0 ≡ capacity / 256 / 256 / 256 = there.byte 2 (omega arith) (at + 2) refl in
       let b3 : get_or s (at + 2 + 1) 0 ≡ capacity / 256 / 256 % 256 = there.byte 3 (omega arith) (at + 2 + 1) (omega arith) in
@@ -61,7 +61,7 @@ module _ (s : List ℕ) (at e capacity : ℕ) (there : Stands s at (link_record 
       let b5 : get_or s (at + 2 + 3) 0 ≡ capacity % 256 = there.byte 5 (omega arith) (at + 2 + 3) (omega arith) in
       let value = number_back s (at + 2) capacity (rate_lt capacity r) b2 b3 b4 b5 in
       let within : leb (at + 6) (length s) ≡ true = le-leb _ _ there.fits in
-      rw (link_kind, takes_link c, link-size, within, number, value, lt-ltb e 64 h, r) refl
+      rw (link_kind, takes_link c, link_size, within, number, value, lt-ltb e 64 h, r) refl
 
 -- A SESSION -----------------------------------------------------------------------------------------------------------
 
@@ -69,22 +69,22 @@ module _ (s : List ℕ) (at t access maximum size : ℕ) (path : ℕ → ℕ) (t
   session_kind : get_or s at 0 ≡ 2
   session_kind = there.byte 0 (omega arith) at (omega arith)
 
-  pub session-size : size_at s at ≡ 19
+  pub session_size : size_at s at ≡ 19
   unfolding size_at body_of
-  session-size = ap (λ (k : ℕ). 1 + body_of k) session_kind
+  session_size = ap (λ (k : ℕ). 1 + body_of k) session_kind
 
   -- its path stands at place 11
-  pub session-path : (h : ℕ) → h < 8 → get_or s (at + 11 + h) 0 ≡ path h
+  pub session_path : (h : ℕ) → h < 8 → get_or s (at + 11 + h) 0 ≡ path h
   unfolding values
-  session-path h l =
+  session_path h l =
       there.byte (11 + h) (omega arith) (at + 11 + h) (omega arith)
       ∙ get_or-append-add (2 ∷ t ∷ (bytes4 access ++ (bytes4 maximum ++ (size ∷ [])))) (values 0 8 path) h 0
       ∙ values_at 8 h path 0 l
 
-  pub session-read : (c : Call) → t < 32 → rate_ok access ≡ true → maximum ≤ 1000000 → path_ok s (at + 11) size ≡ true
+  pub session_read : (c : Call) → t < 32 → rate_ok access ≡ true → maximum ≤ 1000000 → path_ok s (at + 11) size ≡ true
       → read_at c s at ≡ read.Record (rec.Session t access maximum size (at + 11))
   unfolding read_at body_at session_at values
-  session-read c h r m p =
+  session_read c h r m p =
       let number : get_or s (at + 1) 0 ≡ t = there.byte 1 (omega arith) (at + 1) refl in
       let a2 : get_or s (at + 2) 0 ≡ access / 256 / 256 / 256 = there.byte 2 (omega arith) (at + 2) refl in
       let a3 : get_or s (at + 2 + 1) 0 ≡ access / 256 / 256 % 256 = there.byte 3 (omega arith) (at + 2 + 1) (omega arith) in
@@ -98,4 +98,4 @@ module _ (s : List ℕ) (at t access maximum size : ℕ) (path : ℕ → ℕ) (t
       let first = number_back s (at + 2) access (rate_lt access r) a2 a3 a4 a5 in
       let second = number_back s (at + 6) maximum (omega arith) b6 b7 b8 b9 in
       let within : leb (at + 19) (length s) ≡ true = le-leb _ _ there.fits in
-      rw (session_kind, takes_session c, session-size, within, number, first, second, length-byte, lt-ltb t 32 h, r, le-leb maximum 1000000 m, p) refl
+      rw (session_kind, takes_session c, session_size, within, number, first, second, length-byte, lt-ltb t 32 h, r, le-leb maximum 1000000 m, p) refl

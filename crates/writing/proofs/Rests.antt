@@ -23,7 +23,7 @@ use Rattle.declarations.specs.declared.Declared.{Declared}
 use Rattle.declarations.proofs.Copied.{copied_other, copied_there}
 use Rattle.declarations.proofs.KeepsLengths.{Lengths, declare_lengths}
 use Rattle.writing.specs.Writing.{link_from, link_record, path_size, records_from, session_from, session_record}
-use Rattle.writing.proofs.MoreRecords.{records-none}
+use Rattle.writing.proofs.MoreRecords.{records_none}
 use Rattle.writing.proofs.Paths.{path_size_is}
 
 -- RECORDS BY RISING NUMBER --------------------------------------------------------------------------------------------
@@ -84,16 +84,16 @@ rest_end s z low at h o =
       bytes =
           drop_of_length-le s h
           ∙ ap₂ ◌++◌
-          (sym (records-none (link_from z.capacity) (64 - (low - 256)) (low - 256) (λ e. has_of e z.links) (λ e p q. out_is z.links e (o.links e (omega arith)))))
-          (sym (records-none (session_from z.access z.maximum z.path) (32 - (low - 512)) (low - 512) (λ t. has_of t z.sessions) (λ t p q. out_is z.sessions t (o.sessions t (omega arith)))));
+          (sym (records_none (link_from z.capacity) (64 - (low - 256)) (low - 256) (λ e. has_of e z.links) (λ e p q. out_is z.links e (o.links e (omega arith)))))
+          (sym (records_none (session_from z.access z.maximum z.path) (32 - (low - 512)) (low - 512) (λ t. has_of t z.sessions) (λ t p q. out_is z.sessions t (o.sessions t (omega arith)))));
     }
 
 -- A LINK'S RECORD -----------------------------------------------------------------------------------------------------
 
 module _ (s : List ℕ) (z : Declared) (low at e c : ℕ) (low-e : e < 64) (rises : low ≤ 256 + e) (o : Open z low) where
-  pub link-open : Open (declare_of s z (rec.Link e c)) (257 + e)
+  pub link_open : Open (declare_of s z (rec.Link e c)) (257 + e)
   unfolding declare_of
-  link-open =
+  link_open =
       record {
         links = λ i k. has_put_other e i z.links (λ q. omega arith) ∙ o.links i (omega arith);
         sessions = λ t k. o.sessions t (omega arith);
@@ -102,27 +102,27 @@ module _ (s : List ℕ) (z : Declared) (low at e c : ℕ) (low-e : e < 64) (rise
 
   module _ (d : Declared) (r : Rest s (declare_of s z (rec.Link e c)) d (257 + e) (at + 6))
       (here : drop at s ≡ link_record e c ++ drop (at + 6) s) where
-    abbrev link-test : ℕ → Bool
-    link-test i = has_of i d.links
+    abbrev link_test : ℕ → Bool
+    link_test i = has_of i d.links
 
     abbrev behind : List ℕ
     behind = records_from (32 - (low - 512)) (low - 512) (λ t. has_of t d.sessions) (session_from d.access d.maximum d.path)
 
-    link_first : records_from (64 - (low - 256)) (low - 256) link-test (link_from d.capacity) ≡ link_record e c ++ records_from (63 - e) (suc e) link-test (link_from d.capacity)
+    link_first : records_from (64 - (low - 256)) (low - 256) link_test (link_from d.capacity) ≡ link_record e c ++ records_from (63 - e) (suc e) link_test (link_from d.capacity)
     unfolding declare_of
     link_first =
         let b = low - 256 in
         let left : b + (64 - b) - suc e ≡ 63 - e = omega arith in
         let member = in_is d.links e (r.links e (omega arith) ∙ has_put_same e z.links) in
         let value : get_or d.capacity e 0 ≡ c = r.capacity e (omega arith) ∙ get_or-set_same z.capacity e c 0 (omega (arith, o.lengths.capacity)) in
-        records_first link-test (link_from d.capacity) (64 - b) b e (omega arith) (omega arith)
+        records_first link_test (link_from d.capacity) (64 - b) b e (omega arith) (omega arith)
         (λ i p q. out_is d.links i (r.links i (omega arith) ∙ has_put_other e i z.links (λ f. omega (arith, f)) ∙ o.links i (omega arith)))
         member
-        ∙ ap₂ (λ (v k : ℕ). link_record e v ++ records_from k (suc e) link-test (link_from d.capacity)) value left
+        ∙ ap₂ (λ (v k : ℕ). link_record e v ++ records_from k (suc e) link_test (link_from d.capacity)) value left
 
-    pub link-rest : Rest s z d low at
+    pub link_rest : Rest s z d low at
     unfolding declare_of
-    link-rest =
+    link_rest =
         record {
           links = λ i h. r.links i (omega arith) ∙ has_put_other e i z.links (λ q. omega arith);
           capacity = λ i h. r.capacity i (omega arith) ∙ get_or-set_other z.capacity e i c 0 (λ q. omega (arith, q));
@@ -134,10 +134,10 @@ module _ (s : List ℕ) (z : Declared) (low at e c : ℕ) (low-e : e < 64) (rise
               let a : 64 - (257 + e - 256) ≡ 63 - e = omega arith in
               let b : 257 + e - 256 ≡ suc e = omega arith in
               let g : 257 + e - 512 ≡ low - 512 = omega arith in
-              let tail : drop (at + 6) s ≡ records_from (63 - e) (suc e) link-test (link_from d.capacity) ++ behind = r.bytes ∙ rw (a, b, g) refl in
+              let tail : drop (at + 6) s ≡ records_from (63 - e) (suc e) link_test (link_from d.capacity) ++ behind = r.bytes ∙ rw (a, b, g) refl in
               here
               ∙ ap (λ (l : List ℕ). link_record e c ++ l) tail
-              ∙ sym (append_assoc (link_record e c) (records_from (63 - e) (suc e) link-test (link_from d.capacity)) behind)
+              ∙ sym (append_assoc (link_record e c) (records_from (63 - e) (suc e) link_test (link_from d.capacity)) behind)
               ∙ ap (λ (l : List ℕ). l ++ behind) (sym link_first);
         }
 
@@ -147,9 +147,9 @@ module _ (s : List ℕ) (z : Declared) (low at t a m n : ℕ) (low-t : t < 32) (
   abbrev session : Record
   session = rec.Session t a m n (at + 11)
 
-  pub session-open : Open (declare_of s z session) (513 + t)
+  pub session_open : Open (declare_of s z session) (513 + t)
   unfolding declare_of
-  session-open =
+  session_open =
       record {
         links = λ i k. o.links i (omega arith);
         sessions = λ u k. has_put_other t u z.sessions (λ q. omega arith) ∙ o.sessions u (omega arith);
@@ -158,8 +158,8 @@ module _ (s : List ℕ) (z : Declared) (low at t a m n : ℕ) (low-t : t < 32) (
 
   module _ (d : Declared) (ok : path_ok s (at + 11) n ≡ true) (r : Rest s (declare_of s z session) d (513 + t) (at + 19))
       (here : drop at s ≡ session_record t a m n (λ h. get_or s (at + 11 + h) 0) ++ drop (at + 19) s) where
-    abbrev session-test : ℕ → Bool
-    session-test u = has_of u d.sessions
+    abbrev session_test : ℕ → Bool
+    session_test u = has_of u d.sessions
 
     path_is : (h : ℕ) → h < 8 → byte_at d.path t h ≡ get_or s (at + 11 + h) 0
     unfolding declare_of
@@ -175,27 +175,27 @@ module _ (s : List ℕ) (z : Declared) (low at t a m n : ℕ) (low-t : t < 32) (
         values_same 0 8 (byte_at d.path t) (λ h. get_or s (at + 11 + h) 0) (λ h k. path_is h (omega arith)) in
         rw (access, maximum, size, path) refl
 
-    session_first : records_from (32 - (low - 512)) (low - 512) session-test (session_from d.access d.maximum d.path)
-        ≡ session_record t a m n (λ h. get_or s (at + 11 + h) 0) ++ records_from (31 - t) (suc t) session-test (session_from d.access d.maximum d.path)
+    session_first : records_from (32 - (low - 512)) (low - 512) session_test (session_from d.access d.maximum d.path)
+        ≡ session_record t a m n (λ h. get_or s (at + 11 + h) 0) ++ records_from (31 - t) (suc t) session_test (session_from d.access d.maximum d.path)
     unfolding declare_of
     session_first =
         let b = low - 512 in
         let left : b + (32 - b) - suc t ≡ 31 - t = omega arith in
         let member = in_is d.sessions t (r.sessions t (omega arith) ∙ has_put_same t z.sessions) in
-        records_first session-test (session_from d.access d.maximum d.path) (32 - b) b t (omega arith) (omega arith)
+        records_first session_test (session_from d.access d.maximum d.path) (32 - b) b t (omega arith) (omega arith)
         (λ u p q. out_is d.sessions u (r.sessions u (omega arith) ∙ has_put_other t u z.sessions (λ f. omega (arith, f)) ∙ o.sessions u (omega arith)))
         member
-        ∙ ap₂ (λ (l : List ℕ) (k : ℕ). l ++ records_from k (suc t) session-test (session_from d.access d.maximum d.path)) session_is left
+        ∙ ap₂ (λ (l : List ℕ) (k : ℕ). l ++ records_from k (suc t) session_test (session_from d.access d.maximum d.path)) session_is left
 
     no_links : records_from (64 - (low - 256)) (low - 256) (λ i. has_of i d.links) (link_from d.capacity) ≡ []
     unfolding declare_of
     no_links =
-        records-none (link_from d.capacity) (64 - (low - 256)) (low - 256) (λ i. has_of i d.links)
+        records_none (link_from d.capacity) (64 - (low - 256)) (low - 256) (λ i. has_of i d.links)
         (λ i p q. out_is d.links i (r.links i (omega arith) ∙ o.links i (omega arith)))
 
-    pub session-rest : Rest s z d low at
+    pub session_rest : Rest s z d low at
     unfolding declare_of records_from
-    session-rest =
+    session_rest =
         record {
           links = λ i h. r.links i (omega arith);
           capacity = λ i h. r.capacity i (omega arith);
@@ -207,9 +207,9 @@ module _ (s : List ℕ) (z : Declared) (low at t a m n : ℕ) (low-t : t < 32) (
               let none : 64 - (513 + t - 256) ≡ 0 = omega arith in
               let left : 32 - (513 + t - 512) ≡ 31 - t = omega arith in
               let from : 513 + t - 512 ≡ suc t = omega arith in
-              let tail : drop (at + 19) s ≡ records_from (31 - t) (suc t) session-test (session_from d.access d.maximum d.path) = r.bytes ∙ rw (none, left, from) refl in
+              let tail : drop (at + 19) s ≡ records_from (31 - t) (suc t) session_test (session_from d.access d.maximum d.path) = r.bytes ∙ rw (none, left, from) refl in
               here
               ∙ ap (λ (l : List ℕ). session_record t a m n (λ h. get_or s (at + 11 + h) 0) ++ l) tail
               ∙ sym session_first
-              ∙ ap (λ (l : List ℕ). l ++ records_from (32 - (low - 512)) (low - 512) session-test (session_from d.access d.maximum d.path)) (sym no_links);
+              ∙ ap (λ (l : List ℕ). l ++ records_from (32 - (low - 512)) (low - 512) session_test (session_from d.access d.maximum d.path)) (sym no_links);
         }

@@ -15,7 +15,7 @@ use Rattle.records.specs.declared.End.TheVariants as end
 use Rattle.records.specs.declared.Read.TheVariants as read
 use Rattle.records.specs.declared.Record.{Record}
 use Rattle.records.specs.declared.Verdict.{Verdict}
-use Rattle.records.proofs.Runs.{run_end, run-taken}
+use Rattle.records.proofs.Runs.{run_end, run_taken}
 use Rattle.writing.specs.Writing.{records_from}
 
 -- the k numbers from b on that pass
@@ -65,7 +65,7 @@ module _ {S : Type 0} (c : Call) (judge : S → Record → Verdict) (act : S →
           count = n + 1;
           counts = refl;
           low = omega (arith, k.some, length-append before (record_of b));
-          is = run-taken c judge act s z n (length before) k.what low (omega (arith, k.some, k.fits)) k.taken
+          is = run_taken c judge act s z n (length before) k.what low (omega (arith, k.some, k.fits)) k.taken
               ∙ ap (λ (v : ℕ). run_from c judge act s (length s - (n + 1)) (act z k.what) (n + 1) v) far;
           inv = k.next;
         }
@@ -88,15 +88,15 @@ module _ {S : Type 0} (c : Call) (judge : S → Record → Verdict) (act : S →
         }
 
     -- all of them
-    pub run-over : (k b : ℕ) (z : S) (n : ℕ) (before behind : List ℕ) → b + k ≤ limit → n ≤ length before → Inv b z
+    pub run_over : (k b : ℕ) (z : S) (n : ℕ) (before behind : List ℕ) → b + k ≤ limit → n ≤ length before → Inv b z
         → s ≡ before ++ (records_from k b test record_of ++ behind)
         → Comes z n (length before) (b + k) (length (before ++ records_from k b test record_of)) (length (passing k b test))
     unfolding records_from
-    run-over zero b z n before behind h low i e =
+    run_over zero b z n before behind h low i e =
         moved z n (length before) b (length before) (b + 0) (length (before ++ [])) 0 0 (omega arith) (omega (arith, length-append before [])) refl
         (record { state = z; count = n; counts = omega arith; low = low; is = refl; inv = i })
-    run-over (suc k) b z n before behind h low i e =
-        go (test b) refl e (λ y m l p j q. run-over k (suc b) y m l behind (omega arith) p j q)
+    run_over (suc k) b z n before behind h low i e =
+        go (test b) refl e (λ y m l p j q. run_over k (suc b) y m l behind (omega arith) p j q)
       where
         rest : List ℕ
         rest = records_from k (suc b) test record_of
@@ -141,15 +141,15 @@ module _ {S : Type 0} (c : Call) (judge : S → Record → Verdict) (act : S →
   s = front ++ behind
 
   -- all of the first and then all of the second are taken, where what holds after the first is what the second starts from
-  pub run-both : Turns c judge act s First m first-test first_of → Skips First first-test
+  pub run_both : Turns c judge act s First m first-test first_of → Skips First first-test
       → Turns c judge act s Second n second-test second-of → Skips Second second-test
       → ((z : S) → First m z → Second 0 z) → (z : S) → First 0 z
       → Finishes (Second n) (length (passing m 0 first-test) + length (passing n 0 second-test)) (run_from c judge act s (length s) z 0 0)
-  run-both first-turn first-skip second-turn second-skip done z i =
-      let first = run-over c judge act s First m first-test first_of first-turn first-skip m 0 z 0 [] behind (omega arith) (omega arith) i refl in
+  run_both first-turn first-skip second-turn second-skip done z i =
+      let first = run_over c judge act s First m first-test first_of first-turn first-skip m 0 z 0 [] behind (omega arith) (omega arith) i refl in
       let half = done first.state (subst (λ (k : ℕ). First k first.state) {x = 0 + m} {y = m} (omega arith) first.inv) in
       let second =
-      run-over c judge act s Second n second-test second-of second-turn second-skip n 0 first.state first.count front [] (omega arith) first.low half
+      run_over c judge act s Second n second-test second-of second-turn second-skip n 0 first.state first.count front [] (omega arith) first.low half
       (ap (λ (l : List ℕ). front ++ l) (sym (append-nil behind))) in
       let whole =
       ap (λ (k : ℕ). run_from c judge act s k z 0 0) {x = length s} {y = length s - 0} (omega arith)

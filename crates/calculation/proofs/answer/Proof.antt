@@ -4,7 +4,7 @@ use borrow.Author.Rules.{rules}
 use mathlib.Core.Path.{refl, ◌∙◌}
 use Prim.Native.Nat.{◌-◌}
 use Rattle.calculation.specs.Calculating.{done_of, results_of}
-use Rattle.calculation.proofs.SameResults.{same-dens, same-nums, same-places}
+use Rattle.calculation.proofs.SameResults.{same_dens, same_nums, same_places}
 use Rattle.calculation.proofs.Writing.{written_same}
 use Rattle.calculation.proofs.answer.Statement.{statement}
 use Rattle.calculation.proofs.answer.Tie as tie
@@ -42,13 +42,13 @@ returns c =
     let v = c.before.before.before.before.before.before.before.before.before.before.before.before.before.before.before.before.before.before.find.result in
     let g = c.before.before.before.before.before.before.before.before.before.before.before.before.before.before.before.before.before.before.find.ensures in (
       refl,
-      c.before.before.before.before.before.before.before.before.before.before.before.before.before.before.write.ensures ∙ written_same d.sessions v.nums (results_of d).nums _ (same-nums d z v f g),
-      c.before.before.before.before.before.before.before.before.write2.ensures ∙ written_same d.sessions v.dens (results_of d).dens _ (same-dens d z v f g),
-      c.before.before.write3.ensures ∙ written_same d.sessions v.places (results_of d).places _ (same-places d z v f g),
+      c.before.before.before.before.before.before.before.before.before.before.before.before.before.before.write.ensures ∙ written_same d.sessions v.nums (results_of d).nums _ (same_nums d z v f g),
+      c.before.before.before.before.before.before.before.before.write2.ensures ∙ written_same d.sessions v.dens (results_of d).dens _ (same_dens d z v f g),
+      c.before.before.write3.ensures ∙ written_same d.sessions v.places (results_of d).places _ (same_places d z v f g),
     )
 
-pub answer_spec : {M : Type 1} → statement M
-answer_spec =
+pub answer-spec : {M : Type 1} → statement M
+answer-spec =
     tie.close
     (tie.spec
     filled-requires

@@ -20,5 +20,5 @@ first-bottleneck-requires c κs = search rules
 returns-2 : tie.Need-returns-2
 returns-2 c = rw (ne_eqb _ _ c.before.if1.false) c.first-bottleneck.ensures
 
-pub binding_spec : {M : Type 1} → statement M
-binding_spec = tie.close (tie.spec mul-if1 element-copy-out-if1 returns first-bottleneck-requires returns-2)
+pub binding-spec : {M : Type 1} → statement M
+binding-spec = tie.close (tie.spec mul-if1 element-copy-out-if1 returns first-bottleneck-requires returns-2)

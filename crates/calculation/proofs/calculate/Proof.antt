@@ -11,7 +11,7 @@ use Rattle.declarations.specs.declared.Declarations.{Declarations}
 use Rattle.filling.specs.Lines.{Ranges}
 use Rattle.calculation.specs.Calculating.{Outcome, said_of, after_records, calculate_of, done_of, refusing}
 use Rattle.calculation.specs.declared.Calculated.{Calculated}
-use Rattle.calculation.proofs.Outcomes.{binds_of, by-records, ordered_of, ranges_of, short-first, short-second, short-third, too_long}
+use Rattle.calculation.proofs.Outcomes.{binds_of, by_records, ordered_of, ranges_of, short_first, short_second, short_third, too_long}
 use Rattle.calculation.proofs.calculate.Statement.{statement}
 use Rattle.calculation.proofs.calculate.Tie as tie
 
@@ -32,7 +32,7 @@ returns c =
     let n = a.nums.now in
     let d = a.dens.now in
     let p = a.places.now in
-    let e = short-first s n d p c.if1.true in
+    let e = short_first s n d p c.if1.true in
     (told s n d p e, (ap (λ (o : Outcome). said_of o.answer) (sym e), (omega arith, omega arith)))
 
 returns-2 : tie.Need-returns-2
@@ -42,7 +42,7 @@ returns-2 c =
     let n = a.nums.now in
     let d = a.dens.now in
     let p = a.places.now in
-    let e = short-second s n d p c.before.if1.false c.if2.true in
+    let e = short_second s n d p c.before.if1.false c.if2.true in
     (told s n d p e, (ap (λ (o : Outcome). said_of o.answer) (sym e), (omega arith, omega arith)))
 
 returns-3 : tie.Need-returns-3
@@ -52,7 +52,7 @@ returns-3 c =
     let n = a.nums.now in
     let d = a.dens.now in
     let p = a.places.now in
-    let e = short-third s n d p c.before.before.if1.false c.before.if2.false c.if3.true in
+    let e = short_third s n d p c.before.before.if1.false c.before.if2.false c.if3.true in
     (told s n d p e, (ap (λ (o : Outcome). said_of o.answer) (sym e), (omega arith, omega arith)))
 
 returns-4 : tie.Need-returns-4
@@ -89,7 +89,7 @@ returns-5 c =
     let n = a.nums.now in
     let d = a.dens.now in
     let p = a.places.now in
-    let e = by-records s n d p c.before.before.before.before.before.before.before.if1.false c.before.before.before.before.before.before.if2.false c.before.before.before.before.before.if3.false c.before.before.before.before.if4.false
+    let e = by_records s n d p c.before.before.before.before.before.before.before.if1.false c.before.before.before.before.before.before.if2.false c.before.before.before.before.before.if3.false c.before.before.before.before.if4.false
     ∙ ap (λ (x : End). after_records x (declarations_of s).declared n d p) (sym (ap (λ (x : Declarations). x.end) c.before.before.before.declare-all.ensures.0) ∙ c.before.end.given.1) in
     (told s n d p e, (ap (λ (o : Outcome). said_of o.answer) (sym e), (omega arith, omega arith)))
 
@@ -110,7 +110,7 @@ returns-6 c =
     let d = a.dens.now in
     let p = a.places.now in
     let q = c.before.before.before.before.before.before.before.before.before.before.before.before.before.declare-all.ensures.0 in
-    let e = by-records s n d p c.before.before.before.before.before.before.before.before.before.before.before.before.before.before.before.before.before.if1.false c.before.before.before.before.before.before.before.before.before.before.before.before.before.before.before.before.if2.false c.before.before.before.before.before.before.before.before.before.before.before.before.before.before.before.if3.false c.before.before.before.before.before.before.before.before.before.before.before.before.before.before.if4.false
+    let e = by_records s n d p c.before.before.before.before.before.before.before.before.before.before.before.before.before.before.before.before.before.if1.false c.before.before.before.before.before.before.before.before.before.before.before.before.before.before.before.before.if2.false c.before.before.before.before.before.before.before.before.before.before.before.before.before.before.before.if3.false c.before.before.before.before.before.before.before.before.before.before.before.before.before.before.if4.false
     ∙ ap (λ (x : End). after_records x (declarations_of s).declared n d p) (sym (ap (λ (x : Declarations). x.end) q) ∙ c.before.before.before.before.before.before.before.before.before.before.before.enum_told.given.1) in
     let o = ap (λ (x : Declarations). done_of x.declared n d p) q ∙ sym e in
     let t = c.before.before.before.before.before.before.answer.ensures in
@@ -120,8 +120,8 @@ returns-6 c =
     let v = t.3 ∙ ap (λ (z : Outcome). z.places) o in
     ((x, y, w, v), (ap said_of x, (ordered_of s n d p _ _ _ x y w, binds_of s n d p _ _ _ _ x y w v)))
 
-pub calculate_spec : {M : Type 1} → statement M
-calculate_spec =
+pub calculate-spec : {M : Type 1} → statement M
+calculate-spec =
     tie.close
     (tie.spec
     returns

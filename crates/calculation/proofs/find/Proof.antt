@@ -8,7 +8,7 @@ use native.Mathlib.Omega.{arith}
 use Rattle.fractions.specs.Fraction.{lowest_of, max_rate}
 use Rattle.fractions.specs.declared.Rate.{Rate}
 use Rattle.sessions.specs.Set.{cut}
-use Rattle.sessions.proofs.Walks.{next-below, next-less}
+use Rattle.sessions.proofs.Walks.{next_below, next_less}
 use Rattle.declarations.specs.Declaring.{own_limit_of}
 use Rattle.declarations.proofs.OwnLimit.{own_limit_le}
 use Rattle.calculation.specs.Binding.{binding_by_last}
@@ -28,13 +28,13 @@ decreases-loop these access maximum path den rates room last out₀ left₀ out 
 
 -- the next member is below 32, and less is left
 below : (c : tie.After-next invariant-loop decreases-loop) → c.next.result < 32
-below c = let z = c.before.before.loop in next-below 32 z.left c.next.result (omega arith) z.invariant.0 c.next.ensures
+below c = let z = c.before.before.loop in next_below 32 z.left c.next.result (omega arith) z.invariant.0 c.next.ensures
 
 less : (c : tie.After-cut invariant-loop decreases-loop) → c.cut.result < c.before.before.before.before.before.before.before.before.before.loop.left
 less c =
     let z = c.before.before.before.before.before.before.before.before.before.loop in
     let n = c.before.before.before.before.before.before.before.next in
-    next-less 32 z.left n.result (omega arith) z.invariant.0 n.ensures c.cut.result c.cut.ensures
+    next_less 32 z.left n.result (omega arith) z.invariant.0 n.ensures c.cut.result c.cut.ensures
 
 no-results-requires : tie.Need-no-results-requires invariant-loop decreases-loop
 no-results-requires c κs = tt

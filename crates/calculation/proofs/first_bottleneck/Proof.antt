@@ -76,8 +76,8 @@ returns-2 c =
     sym (first_none (bottleneck_by_last a.rates.now a.room.now a.last.now (get_or a.rates.now a.t 0)) (byte_at a.path.now a.t) z.h (omega arith))
     ∙ z.invariant.1
 
-pub first_bottleneck_spec : {M : Type 1} → statement M
-first_bottleneck_spec =
+pub first-bottleneck-spec : {M : Type 1} → statement M
+first-bottleneck-spec =
     tie.close
     (tie.spec
     invariant-loop

@@ -43,8 +43,8 @@ returns-2 c = simp (lt-ltb _ _ c.before.before.before.before.if1.false, eq-eqb _
 returns-3 : tie.Need-returns-3
 returns-3 c = simp (lt-ltb _ _ c.before.before.before.if1.false, ne_eqb _ _ c.if2.false)
 
-pub is_bottleneck_spec : {M : Type 1} → statement M
-is_bottleneck_spec =
+pub is-bottleneck-spec : {M : Type 1} → statement M
+is-bottleneck-spec =
     tie.close
     (tie.spec
     returns

@@ -5,7 +5,7 @@ use Prim.Native.Nat.{◌-◌, ◌^◌, ◌<◌}
 use lib.ListN.{get_or, length, set, length-set}
 use native.Mathlib.Omega.{arith}
 use Rattle.sessions.specs.Set.{cut, members_from, walk}
-use Rattle.sessions.proofs.Walks.{next-below, next-less, walk_end, walk_turn}
+use Rattle.sessions.proofs.Walks.{next_below, next_less, walk_end, walk_turn}
 use Rattle.calculation.specs.Calculating.{written}
 use Rattle.calculation.proofs.write.Statement.{statement}
 use Rattle.calculation.proofs.write.Tie as tie
@@ -20,10 +20,10 @@ decreases-loop w values out₀ left₀ out left = left
 
 -- the next member is below 32, and less is left
 below : (c : tie.After-next invariant-loop decreases-loop) → c.next.result < 32
-below c = next-below 32 c.before.before.loop.left c.next.result (omega arith) c.before.before.loop.invariant.0 c.next.ensures
+below c = next_below 32 c.before.before.loop.left c.next.result (omega arith) c.before.before.loop.invariant.0 c.next.ensures
 
 less : (c : tie.After-cut invariant-loop decreases-loop) → c.cut.result < c.before.before.before.before.loop.left
-less c = next-less 32 c.before.before.before.before.loop.left c.before.before.next.result (omega arith) c.before.before.before.before.loop.invariant.0 c.before.before.next.ensures c.cut.result c.cut.ensures
+less c = next_less 32 c.before.before.before.before.loop.left c.before.before.next.result (omega arith) c.before.before.before.before.loop.invariant.0 c.before.before.next.ensures c.cut.result c.cut.ensures
 
 loop-holds : tie.Need-loop-init invariant-loop decreases-loop
 loop-holds c = (omega arith, refl, refl)

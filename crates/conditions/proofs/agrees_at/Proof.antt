@@ -10,7 +10,7 @@ use Rattle.links.specs.Links.{is_idle}
 use Rattle.links.proofs.Sizes.{to_limit}
 use Rattle.sessions.specs.Set.{has_of}
 use Rattle.table.proofs.InRange.{row_rates}
-use Rattle.totals.proofs.Held.{held-is}
+use Rattle.totals.proofs.Held.{held_is}
 use Rattle.conditions.specs.Settled.{agrees_at}
 use borrow.Author.Rules.{rules}
 use Rattle.conditions.proofs.agrees_at.Statement.{statement}
@@ -29,7 +29,7 @@ returns : tie.Need-returns
 unfolding agrees_at
 returns c =
     let a = c.before.before.before.before.args in
-    let h = sym (held-is a.t.now a.e a.s) ∙ (sym (c.before.has.ensures ∙ ap (λ (l : Link). has_of a.s (bit_or l.r l.f)) c.before.before.before.link_at.ensures) ∙ not_true _ c.if1.true) in
+    let h = sym (held_is a.t.now a.e a.s) ∙ (sym (c.before.has.ensures ∙ ap (λ (l : Link). has_of a.s (bit_or l.r l.f)) c.before.before.before.link_at.ensures) ∙ not_true _ c.if1.true) in
     rw h
 
 entry-in-requires : tie.Need-entry-in-requires
@@ -42,7 +42,7 @@ returns-2 : tie.Need-returns-2
 unfolding agrees_at
 returns-2 c =
     let a = c.before.before.before.before.before.before.before.args in
-    let h = sym (held-is a.t.now a.e a.s) ∙ (sym (c.before.before.before.before.has.ensures ∙ ap (λ (l : Link). has_of a.s (bit_or l.r l.f)) c.before.before.before.before.before.before.link_at.ensures) ∙ not-false _ c.before.before.before.if1.false) in
+    let h = sym (held_is a.t.now a.e a.s) ∙ (sym (c.before.before.before.before.has.ensures ∙ ap (λ (l : Link). has_of a.s (bit_or l.r l.f)) c.before.before.before.before.before.before.link_at.ensures) ∙ not-false _ c.before.before.before.if1.false) in
     let d = sym (c.before.is-idle.ensures ∙ ap (λ (y : Entry). is_idle y.mu) c.before.before.entry_in.ensures) ∙ not_true _ c.if2.true in
     rw (h, d)
 
@@ -57,12 +57,12 @@ returns-3 : tie.Need-returns-3
 unfolding agrees_at
 returns-3 c =
     let a = c.before.before.before.before.before.before.before.before.args in
-    let h = sym (held-is a.t.now a.e a.s) ∙ (sym (c.before.before.before.before.before.has.ensures ∙ ap (λ (l : Link). has_of a.s (bit_or l.r l.f)) c.before.before.before.before.before.before.before.link_at.ensures) ∙ not-false _ c.before.before.before.before.if1.false) in
+    let h = sym (held_is a.t.now a.e a.s) ∙ (sym (c.before.before.before.before.before.has.ensures ∙ ap (λ (l : Link). has_of a.s (bit_or l.r l.f)) c.before.before.before.before.before.before.before.link_at.ensures) ∙ not-false _ c.before.before.before.before.if1.false) in
     let d = sym (c.before.before.is-idle.ensures ∙ ap (λ (y : Entry). is_idle y.mu) c.before.before.before.entry_in.ensures) ∙ not-false _ c.before.if2.false in
     rw (h, d) (c.same.ensures ∙ ap (λ (y : Entry). same_of y.rate a.x) c.before.before.before.entry_in.ensures)
 
-pub agrees_at_spec : {M : Type 1} → statement M
-agrees_at_spec =
+pub agrees-at-spec : {M : Type 1} → statement M
+agrees-at-spec =
     tie.close
     (tie.spec
     link-at-requires

@@ -12,5 +12,5 @@ returns : tie.Need-returns
 unfolding condition_a
 returns c = rw (← c.count.ensures)
 
-pub condition_a_spec : {M : Type 1} → statement M
-condition_a_spec = tie.close (tie.spec count-requires returns)
+pub condition-a-spec : {M : Type 1} → statement M
+condition-a-spec = tie.close (tie.spec count-requires returns)

@@ -51,8 +51,8 @@ returns-2 c =
     let e : l.e ≡ 64 = omega arith in
     sym (ap (λ (k : ℕ). all k (link_rated a.t.now)) (sym e) ∙ l.invariant.1)
 
-pub condition_c_spec : {M : Type 1} → statement M
-condition_c_spec =
+pub condition-c-spec : {M : Type 1} → statement M
+condition-c-spec =
     tie.close
     (tie.spec
     invariant-loop

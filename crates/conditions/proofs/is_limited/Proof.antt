@@ -43,7 +43,7 @@ returns-3 c =
     let d = sym (c.before.before.same.ensures ∙ ap (same_of x) q) ∙ not-false _ c.before.if2.false in
     rw (c.before.before.before.if1.false, d) (c.le2.ensures ∙ ap (le_of x) q)
 
-pub is_limited_spec : {M : Type 1} → statement M
-is_limited_spec =
+pub is-limited-spec : {M : Type 1} → statement M
+is-limited-spec =
     tie.close
     (tie.spec whole-requires le-requires returns same-requires returns-2 le-requires-2 returns-3)

@@ -2,7 +2,7 @@
 -- Assumes nothing.
 use mathlib.Core.Path.{sym, ◌∙◌}
 use Rattle.fractions.proofs.Cases.{not-false, not_true}
-use Rattle.conditions.proofs.OneSession.{settled-once}
+use Rattle.conditions.proofs.OneSession.{settled_once}
 use borrow.Author.Rules.{rules}
 use Rattle.conditions.proofs.is_settled.Statement.{statement}
 use Rattle.conditions.proofs.is_settled.Tie as tie
@@ -13,7 +13,7 @@ condition-a-requires c κs = search rules
 returns : tie.Need-returns
 returns c =
     let d = sym c.before.condition-a.ensures ∙ not_true _ c.if1.true in
-    rw (← (settled-once c.before.before.args.t.now), d)
+    rw (← (settled_once c.before.before.args.t.now), d)
 
 sessions-settle-requires : tie.Need-sessions-settle-requires
 sessions-settle-requires c κs = search rules
@@ -22,7 +22,7 @@ returns-2 : tie.Need-returns-2
 returns-2 c =
     let d = sym c.before.before.before.condition-a.ensures ∙ not-false _ c.before.before.if1.false in
     let s = sym c.before.sessions-settle.ensures ∙ not_true _ c.if2.true in
-    rw (← (settled-once c.before.before.before.before.args.t.now), d, s)
+    rw (← (settled_once c.before.before.before.before.args.t.now), d, s)
 
 condition-c-requires : tie.Need-condition-c-requires
 condition-c-requires c κs = search rules
@@ -31,10 +31,10 @@ returns-3 : tie.Need-returns-3
 returns-3 c =
     let d = sym c.before.before.before.before.condition-a.ensures ∙ not-false _ c.before.before.before.if1.false in
     let s = sym c.before.before.sessions-settle.ensures ∙ not-false _ c.before.if2.false in
-    rw (← (settled-once c.before.before.before.before.before.args.t.now), d, s) c.condition-c.ensures
+    rw (← (settled_once c.before.before.before.before.before.args.t.now), d, s) c.condition-c.ensures
 
-pub is_settled_spec : {M : Type 1} → statement M
-is_settled_spec =
+pub is-settled-spec : {M : Type 1} → statement M
+is-settled-spec =
     tie.close
     (tie.spec
     condition-a-requires

@@ -22,5 +22,5 @@ returns c = search rules
 returns-2 : tie.Need-returns-2
 returns-2 c = rw c.before.before.told.given.1 c.same.ensures
 
-pub is_told_spec : {M : Type 1} → statement M
-is_told_spec = tie.close (tie.spec enum_told enum-known-told same-requires returns returns-2)
+pub is-told-spec : {M : Type 1} → statement M
+is-told-spec = tie.close (tie.spec enum_told enum-known-told same-requires returns returns-2)

@@ -9,21 +9,21 @@ use Rattle.fractions.proofs.Cases.{not-false, not_true}
 use Rattle.links.specs.declared.Bound.{Bound}
 use Rattle.links.specs.declared.Link.{Link}
 use Rattle.links.specs.Links.{B, BoundSized, R, TotalSized}
-use Rattle.links.proofs.Sizes.{B-sized, sum_sized}
+use Rattle.links.proofs.Sizes.{b_sized, sum_sized}
 use Rattle.sessions.proofs.Counts.{count_most}
 use Rattle.table.specs.Words.{link_of, place_of}
 use Rattle.table.proofs.InRange.{capacity_most}
 use Rattle.table.proofs.Workables.{place_workable}
 use Rattle.conditions.specs.Settled.{is_at_most_c, link_rated, members_rated, sum_rated}
-use Rattle.conditions.proofs.LinkByWords.{empty-rated}
+use Rattle.conditions.proofs.LinkByWords.{empty_rated}
 use borrow.Author.Rules.{rules}
 use Rattle.conditions.proofs.link_rated.Statement.{statement}
 use Rattle.conditions.proofs.link_rated.Tie as tie
 
 -- the B that was found is the link's
-is-B : (c : tie.After-bound-from) → c.bound-from.result ≡ B (place_of c.before.before.before.before.before.before.args.t.now c.before.before.before.before.before.before.args.e)
+is_b : (c : tie.After-bound-from) → c.bound-from.result ≡ B (place_of c.before.before.before.before.before.before.args.t.now c.before.before.before.before.before.before.args.e)
 unfolding B
-is-B c = rw (← c.before.before.sum_at.ensures.0, ← c.before.before.before.before.before.link_at.ensures, ← c.before.size.ensures) c.bound-from.ensures.0
+is_b c = rw (← c.before.before.sum_at.ensures.0, ← c.before.before.before.before.before.link_at.ensures, ← c.before.size.ensures) c.bound-from.ensures.0
 
 link-at-requires : tie.Need-link-at-requires
 link-at-requires c κs = search rules
@@ -31,7 +31,7 @@ link-at-requires c κs = search rules
 returns : tie.Need-returns
 returns c =
     let a = c.before.before.before.args in
-    sym (empty-rated a.t.now a.e (ap (λ (l : Link). bit_or l.r l.f) (sym c.before.before.link_at.ensures) ∙ c.if1.true))
+    sym (empty_rated a.t.now a.e (ap (λ (l : Link). bit_or l.r l.f) (sym c.before.before.link_at.ensures) ∙ c.if1.true))
 
 sum-at-requires : tie.Need-sum-at-requires
 sum-at-requires c κs = search rules
@@ -51,20 +51,20 @@ bound-from-requires c κs =
     )
 
 members-rated-requires : tie.Need-members-rated-requires
-members-rated-requires c κs = (c.before.before.before.before.before.before.requires, subst BoundSized (sym (is-B c)) (B-sized (place_of c.before.before.before.before.before.before.args.t.now c.before.before.before.before.before.before.args.e) (place_workable c.before.before.before.before.before.before.args.t.now c.before.before.before.before.before.before.args.e)))
+members-rated-requires c κs = (c.before.before.before.before.before.before.requires, subst BoundSized (sym (is_b c)) (b_sized (place_of c.before.before.before.before.before.before.args.t.now c.before.before.before.before.before.before.args.e) (place_workable c.before.before.before.before.before.before.args.t.now c.before.before.before.before.before.before.args.e)))
 
 returns-2 : tie.Need-returns-2
 unfolding link_rated
 returns-2 c =
     let p = place_of c.before.before.before.before.before.before.before.before.args.t.now c.before.before.before.before.before.before.before.before.args.e in
-    let m = sym (c.before.members-rated.ensures ∙ ap (λ (x : Bound). members_rated x p) (is-B c.before.before)) ∙ not_true _ c.if2.true in
+    let m = sym (c.before.members-rated.ensures ∙ ap (λ (x : Bound). members_rated x p) (is_b c.before.before)) ∙ not_true _ c.if2.true in
     rw m
 
 returns-3 : tie.Need-returns-3
 unfolding link_rated sum_rated
 returns-3 c =
     let p = place_of c.before.before.before.before.before.before.before.before.before.before.args.t.now c.before.before.before.before.before.before.before.before.before.before.args.e in
-    let m = sym (c.before.before.before.members-rated.ensures ∙ ap (λ (x : Bound). members_rated x p) (is-B c.before.before.before.before)) ∙ not-false _ c.before.before.if2.false in
+    let m = sym (c.before.before.before.members-rated.ensures ∙ ap (λ (x : Bound). members_rated x p) (is_b c.before.before.before.before)) ∙ not-false _ c.before.before.if2.false in
     let r = ne_eqb (R p) 0 (λ z. c.if3.true (ap (λ (l : Link). l.r) c.before.before.before.before.before.before.before.before.before.link_at.ensures ∙ z)) in
     rw (m, r)
 
@@ -75,12 +75,12 @@ returns-4 : tie.Need-returns-4
 unfolding link_rated sum_rated
 returns-4 c =
     let p = place_of c.before.before.before.before.before.before.before.before.before.before.before.args.t.now c.before.before.before.before.before.before.before.before.before.before.before.args.e in
-    let m = sym (c.before.before.before.before.members-rated.ensures ∙ ap (λ (x : Bound). members_rated x p) (is-B c.before.before.before.before.before)) ∙ not-false _ c.before.before.before.if2.false in
+    let m = sym (c.before.before.before.before.members-rated.ensures ∙ ap (λ (x : Bound). members_rated x p) (is_b c.before.before.before.before.before)) ∙ not-false _ c.before.before.before.if2.false in
     let r = eq-eqb (R p) 0 (sym (ap (λ (l : Link). l.r) c.before.before.before.before.before.before.before.before.before.before.link_at.ensures) ∙ c.before.if3.false) in
     rw (m, r) (c.is-at-most-c.ensures ∙ ap is_at_most_c c.before.before.before.before.before.before.before.sum_at.ensures.0)
 
-pub link_rated_spec : {M : Type 1} → statement M
-link_rated_spec =
+pub link-rated-spec : {M : Type 1} → statement M
+link-rated-spec =
     tie.close
     (tie.spec
     link-at-requires

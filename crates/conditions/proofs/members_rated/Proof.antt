@@ -12,13 +12,13 @@ use Rattle.links.specs.declared.Link.{Link}
 use Rattle.links.specs.Links.{below_b, equals_b}
 use Rattle.records.proofs.Alls.{all_fails}
 use Rattle.sessions.specs.Set.{has_of}
-use Rattle.sessions.proofs.EachMember.{Shown, shown-next, shown-none}
-use Rattle.sessions.proofs.Walks.{next-below, next-less}
+use Rattle.sessions.proofs.EachMember.{Shown, shown_next, shown_none}
+use Rattle.sessions.proofs.Walks.{next_below, next_less}
 use Rattle.table.specs.Words.{link_of, place_of}
 use Rattle.table.proofs.InRange.{f_below, r_below, row_rates}
 use Rattle.totals.proofs.Held.{held_word}
 use Rattle.conditions.specs.Settled.{member_rated, members_rated, rated_in_f, rated_in_r}
-use Rattle.conditions.proofs.LinkByWords.{members-all}
+use Rattle.conditions.proofs.LinkByWords.{members_all}
 use borrow.Author.Rules.{rules}
 use Rattle.conditions.proofs.members_rated.Statement.{statement}
 use Rattle.conditions.proofs.members_rated.Tie as tie
@@ -30,13 +30,13 @@ abbrev decreases-loop : tie.decreases-loop
 decreases-loop t e b r f left₀ left = left
 
 below : (c : tie.After-next invariant-loop decreases-loop) → c.next.result < 32
-below c = next-below 32 c.before.before.loop.left c.next.result (omega arith) c.before.before.loop.invariant.0 c.next.ensures
+below c = next_below 32 c.before.before.loop.left c.next.result (omega arith) c.before.before.loop.invariant.0 c.next.ensures
 
 less : (c : tie.After-cut invariant-loop decreases-loop) → c.cut.result < c.before.before.before.before.before.before.before.before.loop.left
 less c =
     let l = c.before.before.before.before.before.before.before.before.loop in
     let n = c.before.before.before.before.before.before.next in
-    next-less 32 l.left n.result (omega arith) l.invariant.0 n.ensures c.cut.result c.cut.ensures
+    next_less 32 l.left n.result (omega arith) l.invariant.0 n.ensures c.cut.result c.cut.ensures
 
 rated : (c : tie.After-entry-in invariant-loop decreases-loop) → Sized max_rate c.entry_in.result.rate
 rated c =
@@ -76,7 +76,7 @@ loop-holds c =
     let q = ap (λ (l : Link). bit_or l.r l.f) c.link_at.ensures in (
       omega (arith, q, or_lt 32 (link_of w o.args.e).r (link_of w o.args.e).f (omega (arith, r_below w o.args.e)) (omega (arith, f_below w o.args.e))),
       subst (λ (v : ℕ). Shown (λ s. member_rated o.args.b (place_of w o.args.e) s ≡ true) 32 (held_word w o.args.e) v) (sym q)
-          (shown-none (λ s. member_rated o.args.b (place_of w o.args.e) s ≡ true) 32 (held_word w o.args.e)),
+          (shown_none (λ s. member_rated o.args.b (place_of w o.args.e) s ≡ true) 32 (held_word w o.args.e)),
     )
 
 next-requires : tie.Need-next-requires invariant-loop decreases-loop
@@ -128,7 +128,7 @@ loop-again c =
     let l = c.before.before.before.before.before.before.before.before.loop in
     let s = c.before.before.before.before.before.before.next.result in (
       omega (arith, less c, l.invariant.0),
-      shown-next (λ s. member_rated o.args.b (place_of w o.args.e) s ≡ true) 32 (held_word w o.args.e) l.left s _ c.cut.ensures
+      shown_next (λ s. member_rated o.args.b (place_of w o.args.e) s ≡ true) 32 (held_word w o.args.e) l.left s _ c.cut.ensures
           (ap₂ ◌&&◌ (in_r_lem c.before.before.before.before ∙ not-false _ c.before.before.before.if1.false) (in_f_lem c.before.before ∙ not-false _ c.before.if2.false))
           l.invariant.1,
     )
@@ -137,10 +137,10 @@ returns-3 : tie.Need-returns-3 invariant-loop decreases-loop
 returns-3 c =
     let a = c.before.before.before.args in
     let l = c.before.loop in
-    sym (members-all a.t.now a.e a.b l.left c.loop-test.false l.invariant.1)
+    sym (members_all a.t.now a.e a.b l.left c.loop-test.false l.invariant.1)
 
-pub members_rated_spec : {M : Type 1} → statement M
-members_rated_spec =
+pub members-rated-spec : {M : Type 1} → statement M
+members-rated-spec =
     tie.close
     (tie.spec
     invariant-loop

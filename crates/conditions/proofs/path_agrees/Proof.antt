@@ -77,8 +77,8 @@ returns-2 c =
     let e : l.i ≡ c.before.before.hops-at.result = omega arith in
     rw (← c.before.before.hops-at.ensures) (sym (ap (λ (k : ℕ). all k (stop_agrees a.t.now a.s)) (sym e) ∙ l.invariant.2))
 
-pub path_agrees_spec : {M : Type 1} → statement M
-path_agrees_spec =
+pub path-agrees-spec : {M : Type 1} → statement M
+path-agrees-spec =
     tie.close
     (tie.spec
     invariant-loop

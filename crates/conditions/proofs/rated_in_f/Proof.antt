@@ -22,5 +22,5 @@ returns-2 c =
     let d = sym c.before.before.has.ensures ∙ not-false _ c.before.if1.false in
     rw d c.below-b.ensures
 
-pub rated_in_f_spec : {M : Type 1} → statement M
-rated_in_f_spec = tie.close (tie.spec has-requires returns below-b-requires returns-2)
+pub rated-in-f-spec : {M : Type 1} → statement M
+rated-in-f-spec = tie.close (tie.spec has-requires returns below-b-requires returns-2)

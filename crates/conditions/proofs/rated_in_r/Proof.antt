@@ -22,5 +22,5 @@ returns-2 c =
     let d = sym c.before.before.has.ensures ∙ not-false _ c.before.if1.false in
     rw d c.equals-b.ensures
 
-pub rated_in_r_spec : {M : Type 1} → statement M
-rated_in_r_spec = tie.close (tie.spec has-requires returns equals-b-requires returns-2)
+pub rated-in-r-spec : {M : Type 1} → statement M
+rated-in-r-spec = tie.close (tie.spec has-requires returns equals-b-requires returns-2)

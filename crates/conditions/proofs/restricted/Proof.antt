@@ -43,7 +43,7 @@ returns c =
     let e : l.e ≡ 64 = omega arith in
     subst (λ (n : ℕ). RestrictedBelow w n l.some) e l.invariant.1
 
-pub restricted_spec : {M : Type 1} → statement M
-restricted_spec =
+pub restricted-spec : {M : Type 1} → statement M
+restricted-spec =
     tie.close
     (tie.spec invariant-loop decreases-loop loop-holds link-at-requires add-e loop-less loop-again returns)

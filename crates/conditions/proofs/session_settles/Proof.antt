@@ -93,8 +93,8 @@ returns-6 c =
     let m = sym (c.before.before.is-limited.ensures ∙ ap₂ (λ (t : Bool) (d : ℕ). (t || same_of x (whole_of d)) && le_of x (whole_of d)) (c.before.before.before.before.has.ensures ∙ o.requires.1 o.args.s) c.before.before.before.own_limit.ensures) ∙ not-false _ c.before.if5.false in
     rw (e, i, c.before.before.before.before.before.before.before.before.if3.false, p, m) c.is-told.ensures
 
-pub session_settles_spec : {M : Type 1} → statement M
-session_settles_spec =
+pub session-settles-spec : {M : Type 1} → statement M
+session-settles-spec =
     tie.close
     (tie.spec
     active-at-requires

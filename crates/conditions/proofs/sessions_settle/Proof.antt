@@ -52,8 +52,8 @@ returns-2 c =
     let e : l.s ≡ 32 = omega arith in
     sym (ap (λ (k : ℕ). all k (session_settles a.t.now)) (sym e) ∙ l.invariant.1)
 
-pub sessions_settle_spec : {M : Type 1} → statement M
-sessions_settle_spec =
+pub sessions-settle-spec : {M : Type 1} → statement M
+sessions-settle-spec =
     tie.close
     (tie.spec
     invariant-loop

@@ -53,8 +53,8 @@ returns c =
     let e : c.before.loop.h ≡ 8 = omega arith in
     c.before.loop.invariant.1 ∙ ap (λ (k : ℕ). copied k a.path.now (a.t * 8) a.s.now a.at) e
 
-pub copy_path_spec : {M : Type 1} → statement M
-copy_path_spec =
+pub copy-path-spec : {M : Type 1} → statement M
+copy-path-spec =
     tie.close
     (tie.spec
     invariant-loop

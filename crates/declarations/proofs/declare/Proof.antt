@@ -80,8 +80,8 @@ returns-5 c =
     let q = c.enum-told3.given.1 in
     (sym (ap (capacity_of a.capacity.now) q), sym (ap (access_of a.access.now) q), sym (ap (maximum_of a.maximum.now) q), sym (ap (path_of a.s.now a.path.now) q))
 
-pub declare_spec : {M : Type 1} → statement M
-declare_spec =
+pub declare-spec : {M : Type 1} → statement M
+declare-spec =
     tie.close
     (tie.spec
     enum-known-x

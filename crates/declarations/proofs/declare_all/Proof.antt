@@ -10,8 +10,8 @@ use native.Mathlib.Nat.{sub-zero}
 use Rattle.fractions.proofs.Cases.{said_too}
 use Rattle.records.specs.Run.{Ran, run_from, run_of, said_of}
 use Rattle.records.specs.declared.Call.TheVariants as call
-use Rattle.records.proofs.ReadRecords.{judged-record-ends, judged-record-ok}
-use Rattle.records.proofs.Runs.{run_end, run-refused, run-taken}
+use Rattle.records.proofs.ReadRecords.{judged_record_ends, judged_record_ok}
+use Rattle.records.proofs.Runs.{run_end, run_refused, run_taken}
 use Rattle.declarations.specs.Declaring.{declarations_of, declare_of, judging, none_declared}
 use Rattle.declarations.specs.declared.Declarations.{Declarations}
 use Rattle.declarations.specs.declared.Declared.{Declared}
@@ -48,7 +48,7 @@ ends c =
     let l = c.before.before.before.before.before.before.before.before.before.before.before.before.before.loop in (
       c.size-at.ensures.1,
       rw c.size-at.ensures.0
-          (judged-record-ends call.Calculation s l.at (judging s (state l.links l.capacity l.declared l.access l.maximum l.path)) _ (sym c.before.before.before.before.before.before.before.before.before.before.before.next.ensures ∙ c.before.before.before.before.before.before.before.before.before.x.given.1)),
+          (judged_record_ends call.Calculation s l.at (judging s (state l.links l.capacity l.declared l.access l.maximum l.path)) _ (sym c.before.before.before.before.before.before.before.before.before.before.before.next.ensures ∙ c.before.before.before.before.before.before.before.before.before.x.given.1)),
     )
 
 no-capacities-requires : tie.Need-no-capacities-requires invariant-loop decreases-loop
@@ -77,19 +77,19 @@ declare-requires : tie.Need-declare-requires invariant-loop decreases-loop
 declare-requires c κs =
     let s = c.before.before.before.before.before.before.before.before.before.before.before.before.before.before.before.args.s.now in
     let l = c.before.before.before.before.before.before.before.before.before.loop in
-    judged-record-ok call.Calculation s l.at (judging s (state l.links l.capacity l.declared l.access l.maximum l.path)) _ (sym c.before.before.before.before.before.before.before.next.ensures ∙ c.before.before.before.before.before.x.given.1) (λ i. omega (arith, c.before.before.before.before.before.before.before.before.before.before.before.before.before.before.shared-slice-known.given i))
+    judged_record_ok call.Calculation s l.at (judging s (state l.links l.capacity l.declared l.access l.maximum l.path)) _ (sym c.before.before.before.before.before.before.before.next.ensures ∙ c.before.before.before.before.before.x.given.1) (λ i. omega (arith, c.before.before.before.before.before.before.before.before.before.before.before.before.before.before.shared-slice-known.given i))
 
 with-link-requires : tie.Need-with-link-requires invariant-loop decreases-loop
 with-link-requires c κs =
     let s = c.before.before.before.before.before.before.before.before.before.before.before.before.before.before.before.before.args.s.now in
     let l = c.before.before.before.before.before.before.before.before.before.before.loop in
-    judged-record-ok call.Calculation s l.at (judging s (state l.links l.capacity l.declared l.access l.maximum l.path)) _ (sym c.before.before.before.before.before.before.before.before.next.ensures ∙ c.before.before.before.before.before.before.x.given.1) (λ i. omega (arith, c.before.before.before.before.before.before.before.before.before.before.before.before.before.before.before.shared-slice-known.given i))
+    judged_record_ok call.Calculation s l.at (judging s (state l.links l.capacity l.declared l.access l.maximum l.path)) _ (sym c.before.before.before.before.before.before.before.before.next.ensures ∙ c.before.before.before.before.before.before.x.given.1) (λ i. omega (arith, c.before.before.before.before.before.before.before.before.before.before.before.before.before.before.before.shared-slice-known.given i))
 
 with-session-requires : tie.Need-with-session-requires invariant-loop decreases-loop
 with-session-requires c κs =
     let s = c.before.before.before.before.before.before.before.before.before.before.before.before.before.before.before.before.before.args.s.now in
     let l = c.before.before.before.before.before.before.before.before.before.before.before.loop in
-    judged-record-ok call.Calculation s l.at (judging s (state l.links l.capacity l.declared l.access l.maximum l.path)) _ (sym c.before.before.before.before.before.before.before.before.before.next.ensures ∙ c.before.before.before.before.before.before.before.x.given.1) (λ i. omega (arith, c.before.before.before.before.before.before.before.before.before.before.before.before.before.before.before.before.shared-slice-known.given i))
+    judged_record_ok call.Calculation s l.at (judging s (state l.links l.capacity l.declared l.access l.maximum l.path)) _ (sym c.before.before.before.before.before.before.before.before.before.next.ensures ∙ c.before.before.before.before.before.before.before.x.given.1) (λ i. omega (arith, c.before.before.before.before.before.before.before.before.before.before.before.before.before.before.before.before.shared-slice-known.given i))
 
 size-at-requires : tie.Need-size-at-requires invariant-loop decreases-loop
 size-at-requires c κs = search rules
@@ -118,7 +118,7 @@ loop-again c =
           ≡ run_of call.Calculation (judging s) (declare_of s) s none_declared)
           (sym q)
           (rw c.size-at.ensures.0
-          (sym (run-taken call.Calculation (judging s) (declare_of s) s (state l.links l.capacity l.declared l.access l.maximum l.path) l.n l.at _ l.invariant.0 c.before.before.before.before.before.before.before.before.before.before.before.before.loop-test.true e) ∙ l.invariant.2)),
+          (sym (run_taken call.Calculation (judging s) (declare_of s) s (state l.links l.capacity l.declared l.access l.maximum l.path) l.n l.at _ l.invariant.0 c.before.before.before.before.before.before.before.before.before.before.before.before.loop-test.true e) ∙ l.invariant.2)),
     )
 
 enum-known-x-2 : tie.Need-enum-known-x-2 invariant-loop decreases-loop
@@ -130,7 +130,7 @@ returns c = let s = c.before.before.before.before.before.before.before.before.be
     let l = c.before.before.before.before.before.loop in
     told_too
     (ap shown
-    (sym (run-refused call.Calculation (judging s) (declare_of s) s (state l.links l.capacity l.declared l.access l.maximum l.path) l.n l.at _ l.invariant.0 c.before.before.before.before.loop-test.true (sym c.before.before.before.next.ensures ∙ c.before.x2.given.1)) ∙ l.invariant.2))
+    (sym (run_refused call.Calculation (judging s) (declare_of s) s (state l.links l.capacity l.declared l.access l.maximum l.path) l.n l.at _ l.invariant.0 c.before.before.before.before.loop-test.true (sym c.before.before.before.next.ensures ∙ c.before.x2.given.1)) ∙ l.invariant.2))
 
 returns-2 : tie.Need-returns-2 invariant-loop decreases-loop
 unfolding declarations_of
@@ -138,8 +138,8 @@ returns-2 c = let s = c.before.before.before.before.before.before.before.args.s.
     let l = c.before.loop in
     told_too (ap shown (sym (run_end call.Calculation (judging s) (declare_of s) s (length s - l.n) (state l.links l.capacity l.declared l.access l.maximum l.path) l.n l.at c.loop-test.false) ∙ l.invariant.2))
 
-pub declare_all_spec : {M : Type 1} → statement M
-declare_all_spec =
+pub declare-all-spec : {M : Type 1} → statement M
+declare-all-spec =
     tie.close
     (tie.spec
     invariant-loop

@@ -84,8 +84,8 @@ returns-9 : tie.Need-returns-9
 unfolding judge_of
 returns-9 c = rw c.enum-told3.given.1
 
-pub judge_spec : {M : Type 1} → statement M
-judge_spec =
+pub judge-spec : {M : Type 1} → statement M
+judge-spec =
     tie.close
     (tie.spec
     enum-known-x

@@ -42,8 +42,8 @@ returns-2 c =
     let q = sym c.before.before.before.read_at.ensures.0 ∙ c.before.read2.given.1 in
     sym (ap (λ (r : Read). judged r (judge_of c.before.before.before.before.before.args.s.now c.before.before.before.before.before.args.links c.before.before.before.before.before.args.declared)) q)
 
-pub next_spec : {M : Type 1} → statement M
-next_spec =
+pub next-spec : {M : Type 1} → statement M
+next-spec =
     tie.close
     (tie.spec
     read-at-requires

@@ -17,5 +17,5 @@ returns-3 : tie.Need-returns-3
 unfolding own_limit_of
 returns-3 c = simp (ne_eqb _ _ c.before.if1.false, lt-leb _ _ c.if2.false)
 
-pub own_limit_spec : {M : Type 1} → statement M
-own_limit_spec = tie.close (tie.spec returns returns-2 returns-3)
+pub own-limit-spec : {M : Type 1} → statement M
+own-limit-spec = tie.close (tie.spec returns returns-2 returns-3)

@@ -56,8 +56,8 @@ returns-2 c =
     let e : c.before.loop.h ≡ a.n = omega arith in
     sym (ap (path_declared a.links a.s.now a.at) (sym e) ∙ c.before.loop.invariant.1)
 
-pub path_declared_spec : {M : Type 1} → statement M
-path_declared_spec =
+pub path-declared-spec : {M : Type 1} → statement M
+path-declared-spec =
     tie.close
     (tie.spec
     invariant-loop

@@ -40,8 +40,8 @@ returns-4 c = search rules
 returns-5 : tie.Need-returns-5
 returns-5 c = search rules
 
-pub with_link_spec : {M : Type 1} → statement M
-with_link_spec =
+pub with-link-spec : {M : Type 1} → statement M
+with-link-spec =
     tie.close
     (tie.spec
     enum-known-x

@@ -40,8 +40,8 @@ returns-4 c = search rules
 returns-5 : tie.Need-returns-5
 returns-5 c = search rules
 
-pub with_session_spec : {M : Type 1} → statement M
-with_session_spec =
+pub with-session-spec : {M : Type 1} → statement M
+with-session-spec =
     tie.close
     (tie.spec
     enum_told

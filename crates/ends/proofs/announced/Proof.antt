@@ -25,7 +25,7 @@ returns : tie.Need-returns
 unfolding announced_of
 returns c = rw (c.keeping.ensures, c.before.same.ensures, c.before.before.goes-free.ensures, c.before.before.before.before.own_limit.ensures)
 
-pub announced_spec : {M : Type 1} → statement M
-announced_spec =
+pub announced-spec : {M : Type 1} → statement M
+announced-spec =
     tie.close
     (tie.spec own-limit-requires goes-free-requires same-requires keeping-requires returns)

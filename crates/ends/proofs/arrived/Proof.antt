@@ -77,8 +77,8 @@ returns-7 : tie.Need-returns-7
 unfolding arrived_of
 returns-7 c = rw c.before.enum-told3.given.1 c.silently4.ensures
 
-pub arrived_spec : {M : Type 1} → statement M
-arrived_spec =
+pub arrived-spec : {M : Type 1} → statement M
+arrived-spec =
     tie.close
     (tie.spec
     enum-known-kind

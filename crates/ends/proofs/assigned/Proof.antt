@@ -36,8 +36,8 @@ unfolding assigned_of
 returns-2 c = let e : at_d c.before.before.before.before.before.args.z c.before.before.before.before.before.args.x ≡ false = subst (λ (d : Rate). same_of d c.before.before.before.before.before.args.x ≡ false) c.before.before.before.before.own_limit.ensures (sym c.before.before.before.same.ensures ∙ c.before.before.if1.false) in
     rw (c.silently.ensures, c.before.idle-with.ensures, e)
 
-pub assigned_spec : {M : Type 1} → statement M
-assigned_spec =
+pub assigned-spec : {M : Type 1} → statement M
+assigned-spec =
     tie.close
     (tie.spec
     own-limit-requires

@@ -23,6 +23,6 @@ returns-2 : tie.Need-returns-2
 unfolding request_of
 returns-2 c = rw (c.noted.ensures, ← c.before.before.is-idle.ensures, c.before.if1.false)
 
-pub changing_spec : {M : Type 1} → statement M
-changing_spec =
+pub changing-spec : {M : Type 1} → statement M
+changing-spec =
     tie.close (tie.spec is-idle-requires again-requires returns noted-requires returns-2)

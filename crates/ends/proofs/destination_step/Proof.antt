@@ -49,8 +49,8 @@ returns-7 c = search rules
 returns-8 : tie.Need-returns-8
 returns-8 c = search rules
 
-pub destination_step_spec : {M : Type 1} → statement M
-destination_step_spec =
+pub destination-step-spec : {M : Type 1} → statement M
+destination-step-spec =
     tie.close
     (tie.spec
     enum-known-kind

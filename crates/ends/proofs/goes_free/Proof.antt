@@ -13,5 +13,5 @@ returns c = rw (← c.before.lt.ensures, c.if1.true)
 returns-2 : tie.Need-returns-2
 returns-2 c = rw (← c.before.lt.ensures, c.if1.false)
 
-pub goes_free_spec : {M : Type 1} → statement M
-goes_free_spec = tie.close (tie.spec lt-requires returns returns-2)
+pub goes-free-spec : {M : Type 1} → statement M
+goes-free-spec = tie.close (tie.spec lt-requires returns returns-2)

@@ -16,5 +16,5 @@ returns : tie.Need-returns
 unfolding joining_of
 returns c = rw (c.own_limit.ensures, c.before.zero.ensures)
 
-pub joining_spec : {M : Type 1} → statement M
-joining_spec = tie.close (tie.spec zero-requires own-limit-requires returns)
+pub joining-spec : {M : Type 1} → statement M
+joining-spec = tie.close (tie.spec zero-requires own-limit-requires returns)

@@ -10,5 +10,5 @@ returns : tie.Need-returns
 unfolding leaving_of
 returns c = refl
 
-pub leaving_spec : {M : Type 1} → statement M
-leaving_spec = tie.close (tie.spec returns)
+pub leaving-spec : {M : Type 1} → statement M
+leaving-spec = tie.close (tie.spec returns)

@@ -15,5 +15,5 @@ whole-requires c κs = search rules
 returns : tie.Need-returns
 returns c = c.whole.ensures ∙ ap whole_of c.before.own_limit.ensures
 
-pub own_limit_spec : {M : Type 1} → statement M
-own_limit_spec = tie.close (tie.spec own-limit-requires whole-requires returns)
+pub own-limit-spec : {M : Type 1} → statement M
+own-limit-spec = tie.close (tie.spec own-limit-requires whole-requires returns)

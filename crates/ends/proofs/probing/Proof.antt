@@ -11,5 +11,5 @@ own-limit-requires c κs = search rules
 returns : tie.Need-returns
 returns c = rw c.own_limit.ensures
 
-pub probing_spec : {M : Type 1} → statement M
-probing_spec = tie.close (tie.spec own-limit-requires returns)
+pub probing-spec : {M : Type 1} → statement M
+probing-spec = tie.close (tie.spec own-limit-requires returns)

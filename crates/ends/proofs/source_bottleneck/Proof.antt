@@ -23,6 +23,6 @@ returns-2 : tie.Need-returns-2
 unfolding source_bottleneck_of
 returns-2 c = rw (← c.before.before.is-new.ensures, c.before.if1.false) c.silently.ensures
 
-pub source_bottleneck_spec : {M : Type 1} → statement M
-source_bottleneck_spec =
+pub source-bottleneck-spec : {M : Type 1} → statement M
+source-bottleneck-spec =
     tie.close (tie.spec is-new-requires announced-requires returns silently-requires returns-2)

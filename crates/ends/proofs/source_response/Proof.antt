@@ -1,6 +1,6 @@
 -- `ends::source_response` meets its contract, by what the Response asks for.
 -- Assumes nothing.
-use Rattle.ends.proofs.Responses.{again-bottleneck, again-response, taken-bottleneck, taken-response}
+use Rattle.ends.proofs.Responses.{again_bottleneck, again_response, taken_bottleneck, taken_response}
 use Rattle.ends.specs.Figure3.{Ready, announced_of, source_response_of}
 use mathlib.Core.Path.{ap, subst, sym, ◌∙◌}
 use borrow.Author.Rules.{rules}
@@ -39,19 +39,19 @@ unfolding source_response_of
 returns c = rw c.before.enum_told.given.1 c.again.ensures
 
 returns-2 : tie.Need-returns-2
-returns-2 c = rw c.before.before.enum-told2.given.1 (c.again2.ensures ∙ sym (again-bottleneck _ _ c.before.if1.true))
+returns-2 c = rw c.before.before.enum-told2.given.1 (c.again2.ensures ∙ sym (again_bottleneck _ _ c.before.if1.true))
 
 returns-3 : tie.Need-returns-3
-returns-3 c = rw c.before.before.before.enum-told2.given.1 (c.announced.ensures ∙ (ap announced_of c.before.idle-with.ensures ∙ sym (taken-bottleneck _ _ c.before.before.if1.false)))
+returns-3 c = rw c.before.before.before.enum-told2.given.1 (c.announced.ensures ∙ (ap announced_of c.before.idle-with.ensures ∙ sym (taken_bottleneck _ _ c.before.before.if1.false)))
 
 returns-4 : tie.Need-returns-4
-returns-4 c = rw c.before.before.enum-told3.given.1 (c.again3.ensures ∙ sym (again-response _ _ c.before.if2.true))
+returns-4 c = rw c.before.before.enum-told3.given.1 (c.again3.ensures ∙ sym (again_response _ _ c.before.if2.true))
 
 returns-5 : tie.Need-returns-5
-returns-5 c = rw c.before.before.enum-told3.given.1 (c.assigned.ensures ∙ sym (taken-response _ _ c.before.if2.false))
+returns-5 c = rw c.before.before.enum-told3.given.1 (c.assigned.ensures ∙ sym (taken_response _ _ c.before.if2.false))
 
-pub source_response_spec : {M : Type 1} → statement M
-source_response_spec =
+pub source-response-spec : {M : Type 1} → statement M
+source-response-spec =
     tie.close
     (tie.spec
     enum_told

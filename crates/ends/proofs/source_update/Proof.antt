@@ -26,7 +26,7 @@ returns-2 : tie.Need-returns-2
 unfolding source_update_of
 returns-2 c = rw (c.noted.ensures, ← c.before.before.is-idle.ensures, c.before.if1.false)
 
-pub source_update_spec : {M : Type 1} → statement M
-source_update_spec =
+pub source-update-spec : {M : Type 1} → statement M
+source-update-spec =
     tie.close
     (tie.spec is-idle-requires keeping-requires probing-requires returns noted-requires returns-2)

@@ -53,8 +53,8 @@ returns-3 : tie.Need-returns-3
 unfolding arrive_of
 returns-3 c = rw (ne_eqb c.before.before.before.before.before.before.before.before.before.before.before.before.before.args.p.hop 0 c.before.before.before.before.before.before.before.before.before.before.before.if1.false, ← c.before.before.before.before.before.before.before.before.hops-at.ensures, le-ltb _ _ c.before.before.before.before.before.before.if2.false, ← c.before.before.stop-at.ensures) c.at_link.ensures
 
-pub arrive_spec : {M : Type 1} → statement M
-arrive_spec =
+pub arrive-spec : {M : Type 1} → statement M
+arrive-spec =
     tie.close
     (tie.spec
     at-source-requires

@@ -10,7 +10,7 @@ use Rattle.table.proofs.InRange.{count_most}
 use Rattle.tasks.specs.Figure2.{link_step_of}
 use Rattle.events.proofs.Needs.{kind_sized}
 use Rattle.table.proofs.Workables.{place_workable}
-use Rattle.events.proofs.Steps.{link-done, link-many, link-too-fine}
+use Rattle.events.proofs.Steps.{link_done, link_many, link_too_fine}
 use borrow.Author.Rules.{rules}
 use Rattle.events.proofs.at_link.Statement.{statement}
 use Rattle.events.proofs.at_link.Tie as tie
@@ -25,7 +25,7 @@ link-step-requires : tie.Need-link-step-requires
 link-step-requires c κs = (c.before.before.requires.1.session, kind_sized c.before.before.args.p.kind c.before.before.requires.1.kind, subst Workable (sym c.place_at.ensures) (place_workable _ _))
 
 returns : tie.Need-returns
-returns c = sym (link-too-fine _ _ _ _ c.before.before.link-step.result (c.before.before.link-step.ensures ∙ ap (link_step_of c.before.before.before.before.before.args.e c.before.before.before.before.before.args.p.session c.before.before.before.before.before.args.p.kind) c.before.before.before.place_at.ensures) (not_true _ c.if1.true))
+returns c = sym (link_too_fine _ _ _ _ c.before.before.link-step.result (c.before.before.link-step.ensures ∙ ap (link_step_of c.before.before.before.before.before.args.e c.before.before.before.before.before.args.p.session c.before.before.before.before.before.args.p.kind) c.before.before.before.place_at.ensures) (not_true _ c.if1.true))
 
 on-path-requires : tie.Need-on-path-requires
 on-path-requires c κs = search rules
@@ -56,16 +56,16 @@ add-after-2 c = let h : c.before.before.count.result ≤ 256 = subst (λ (n : �
     omega (arith, c.one-if.ensures.1)
 
 returns-2 : tie.Need-returns-2
-returns-2 c = sym (link-many _ _ _ _ c.before.before.before.before.before.before.before.before.before.link-step.result (c.before.before.before.before.before.before.before.before.before.link-step.ensures ∙ ap (link_step_of c.before.before.before.before.before.before.before.before.before.before.before.before.args.e c.before.before.before.before.before.before.before.before.before.before.before.before.args.p.session c.before.before.before.before.before.before.before.before.before.before.before.before.args.p.kind) c.before.before.before.before.before.before.before.before.before.before.place_at.ensures) c.before.before.before.before.before.on_path.result c.before.before.before.count.result c.before.before.size.result c.before.one-if.result (not-false _ c.before.before.before.before.before.before.before.if1.false) c.before.before.before.before.before.on_path.ensures c.before.before.before.count.ensures c.before.before.size.ensures c.before.one-if.ensures.0 c.if2.true)
+returns-2 c = sym (link_many _ _ _ _ c.before.before.before.before.before.before.before.before.before.link-step.result (c.before.before.before.before.before.before.before.before.before.link-step.ensures ∙ ap (link_step_of c.before.before.before.before.before.before.before.before.before.before.before.before.args.e c.before.before.before.before.before.before.before.before.before.before.before.before.args.p.session c.before.before.before.before.before.before.before.before.before.before.before.before.args.p.kind) c.before.before.before.before.before.before.before.before.before.before.place_at.ensures) c.before.before.before.before.before.on_path.result c.before.before.before.count.result c.before.before.size.result c.before.one-if.result (not-false _ c.before.before.before.before.before.before.before.if1.false) c.before.before.before.before.before.on_path.ensures c.before.before.before.count.ensures c.before.before.size.ensures c.before.one-if.ensures.0 c.if2.true)
 
 write-link-requires : tie.Need-write-link-requires
 write-link-requires c κs = search rules
 
 returns-3 : tie.Need-returns-3
-returns-3 c = sym (link-done _ _ _ _ c.before.before.before.before.before.before.before.before.before.before.before.link-step.result (c.before.before.before.before.before.before.before.before.before.before.before.link-step.ensures ∙ ap (link_step_of c.before.before.before.before.before.before.before.before.before.before.before.before.before.before.args.e c.before.before.before.before.before.before.before.before.before.before.before.before.before.before.args.p.session c.before.before.before.before.before.before.before.before.before.before.before.before.before.before.args.p.kind) c.before.before.before.before.before.before.before.before.before.before.before.before.place_at.ensures) c.before.before.before.before.before.before.before.on_path.result c.before.before.before.before.before.count.result c.before.before.before.before.size.result c.before.before.before.one-if.result (not-false _ c.before.before.before.before.before.before.before.before.before.if1.false) c.before.before.before.before.before.before.before.on_path.ensures c.before.before.before.before.before.count.ensures c.before.before.before.before.size.ensures c.before.before.before.one-if.ensures.0 c.before.before.if2.false _ c.write-link.ensures)
+returns-3 c = sym (link_done _ _ _ _ c.before.before.before.before.before.before.before.before.before.before.before.link-step.result (c.before.before.before.before.before.before.before.before.before.before.before.link-step.ensures ∙ ap (link_step_of c.before.before.before.before.before.before.before.before.before.before.before.before.before.before.args.e c.before.before.before.before.before.before.before.before.before.before.before.before.before.before.args.p.session c.before.before.before.before.before.before.before.before.before.before.before.before.before.before.args.p.kind) c.before.before.before.before.before.before.before.before.before.before.before.before.place_at.ensures) c.before.before.before.before.before.before.before.on_path.result c.before.before.before.before.before.count.result c.before.before.before.before.size.result c.before.before.before.one-if.result (not-false _ c.before.before.before.before.before.before.before.before.before.if1.false) c.before.before.before.before.before.before.before.on_path.ensures c.before.before.before.before.before.count.ensures c.before.before.before.before.size.ensures c.before.before.before.one-if.ensures.0 c.before.before.if2.false _ c.write-link.ensures)
 
-pub at_link_spec : {M : Type 1} → statement M
-at_link_spec =
+pub at-link-spec : {M : Type 1} → statement M
+at-link-spec =
     tie.close
     (tie.spec
     place-at-requires

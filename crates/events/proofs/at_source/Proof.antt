@@ -3,7 +3,7 @@
 use mathlib.Core.Path.{◌≡◌, ap, subst, sym, ◌∙◌}
 use Rattle.ends.specs.Figure3.{Ready, source_step_of}
 use Rattle.events.proofs.Needs.{kind_sized, ready}
-use Rattle.events.proofs.Steps.{source_done, source-many}
+use Rattle.events.proofs.Steps.{source_done, source_many}
 use borrow.Author.Rules.{rules}
 use Rattle.events.proofs.at_source.Statement.{statement}
 use Rattle.events.proofs.at_source.Tie as tie
@@ -30,7 +30,7 @@ add-after : tie.Need-overflow-add-after
 add-after c = search rules
 
 returns : tie.Need-returns
-returns c = sym (source-many _ _ _ c.before.before.before.before.source-step.result c.before.before.count.result c.before.one-if.result (c.before.before.before.before.source-step.ensures ∙ ap (source_step_of c.before.before.before.before.before.before.before.before.args.p.kind) c.before.before.before.before.before.source_at.ensures) c.before.before.count.ensures c.before.one-if.ensures.0 c.if1.true)
+returns c = sym (source_many _ _ _ c.before.before.before.before.source-step.result c.before.before.count.result c.before.one-if.result (c.before.before.before.before.source-step.ensures ∙ ap (source_step_of c.before.before.before.before.before.before.before.before.args.p.kind) c.before.before.before.before.before.source_at.ensures) c.before.before.count.ensures c.before.one-if.ensures.0 c.if1.true)
 
 write-source-requires : tie.Need-write-source-requires
 write-source-requires c κs = search rules
@@ -38,8 +38,8 @@ write-source-requires c κs = search rules
 returns-2 : tie.Need-returns-2
 returns-2 c = sym (source_done _ _ _ c.before.before.before.before.before.before.source-step.result c.before.before.before.before.count.result c.before.before.before.one-if.result (c.before.before.before.before.before.before.source-step.ensures ∙ ap (source_step_of c.before.before.before.before.before.before.before.before.before.before.args.p.kind) c.before.before.before.before.before.before.before.source_at.ensures) c.before.before.before.before.count.ensures c.before.before.before.one-if.ensures.0 c.before.before.if1.false _ c.write-source.ensures)
 
-pub at_source_spec : {M : Type 1} → statement M
-at_source_spec =
+pub at-source-spec : {M : Type 1} → statement M
+at-source-spec =
     tie.close
     (tie.spec
     cast-source-at

@@ -14,5 +14,5 @@ is-declared-requires c κs = search rules
 returns-2 : tie.Need-returns-2
 returns-2 c = simp (lt-ltb _ _ c.before.if1.false, c.is_declared.ensures)
 
-pub byte_declared_spec : {M : Type 1} → statement M
-byte_declared_spec = tie.close (tie.spec returns is-declared-requires returns-2)
+pub byte-declared-spec : {M : Type 1} → statement M
+byte-declared-spec = tie.close (tie.spec returns is-declared-requires returns-2)

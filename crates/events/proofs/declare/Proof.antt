@@ -19,5 +19,5 @@ returns-2 : tie.Need-returns-2
 unfolding declare_of
 returns-2 c = rw (← c.before.before.before.is_declared.ensures, c.before.before.if1.false, c.put-link.ensures)
 
-pub declare_spec : {M : Type 1} → statement M
-declare_spec = tie.close (tie.spec is-declared-requires returns put-link-requires returns-2)
+pub declare-spec : {M : Type 1} → statement M
+declare-spec = tie.close (tie.spec is-declared-requires returns put-link-requires returns-2)

@@ -25,7 +25,7 @@ in-turn-requires c κs = let h : c.before.before.count.result ≤ 256 = subst (�
 
 returns-2 : tie.Need-returns-2
 unfolding deliver_of
-returns-2 c = rw (← c.before.before.before.before.count.ensures, lt-ltb _ _ c.before.before.before.if1.false, ← c.before.in-turn.ensures, not_true c.before.in-turn.result c.if2.true)
+returns-2 c = rw (← c.before.before.before.before.count.ensures, lt-ltb _ _ c.before.before.before.if1.false, ← c.before.in_turn.ensures, not_true c.before.in_turn.result c.if2.true)
 
 packet-at-requires : tie.Need-packet-at-requires
 packet-at-requires c κs = let h : c.before.before.before.before.before.count.result ≤ 256 = subst (λ (n : ℕ). n ≤ 256) (sym c.before.before.before.before.before.count.ensures) (count_most _) in
@@ -36,10 +36,10 @@ arrive-requires c κs = (subst (λ (n : ℕ). c.before.before.before.before.befo
 
 returns-3 : tie.Need-returns-3
 unfolding deliver_of
-returns-3 c = rw (← c.before.before.before.before.before.before.before.before.count.ensures, lt-ltb _ _ c.before.before.before.before.before.before.before.if1.false, ← c.before.before.before.before.before.in-turn.ensures, not-false c.before.before.before.before.before.in-turn.result c.before.before.before.before.if2.false, ← c.before.before.packet_at.ensures) c.arrive.ensures
+returns-3 c = rw (← c.before.before.before.before.before.before.before.before.count.ensures, lt-ltb _ _ c.before.before.before.before.before.before.before.if1.false, ← c.before.before.before.before.before.in_turn.ensures, not-false c.before.before.before.before.before.in_turn.result c.before.before.before.before.if2.false, ← c.before.before.packet_at.ensures) c.arrive.ensures
 
-pub deliver_spec : {M : Type 1} → statement M
-deliver_spec =
+pub deliver-spec : {M : Type 1} → statement M
+deliver-spec =
     tie.close
     (tie.spec
     count-requires

@@ -64,8 +64,8 @@ returns-5 : tie.Need-returns-5
 unfolding event_of
 returns-5 c = told_too (rw c.before.before.before.x5.given.1 c.deliver.ensures)
 
-pub event_spec : {M : Type 1} → statement M
-event_spec =
+pub event-spec : {M : Type 1} → statement M
+event-spec =
     tie.close
     (tie.spec
     enum-known-x

@@ -23,5 +23,5 @@ add-result c = omega (arith, c.before.count.ensures, count_most c.before.before.
 returns : tie.Need-returns
 returns c = le_not_lt (c.before.count.result + c.one-if.result) 256 ∙ ap (λ (n : ℕ). not (ltb 256 n)) (ap₂ ◌+◌ c.before.count.ensures c.one-if.ensures.0)
 
-pub has_room_spec : {M : Type 1} → statement M
-has_room_spec = tie.close (tie.spec count-requires one-if-requires add-result returns)
+pub has-room-spec : {M : Type 1} → statement M
+has-room-spec = tie.close (tie.spec count-requires one-if-requires add-result returns)

@@ -10,5 +10,5 @@ link-at-requires c κs = search rules
 returns : tie.Need-returns
 returns c = rw c.before.link_at.ensures
 
-pub is_declared_spec : {M : Type 1} → statement M
-is_declared_spec = tie.close (tie.spec link-at-requires returns)
+pub is-declared-spec : {M : Type 1} → statement M
+is-declared-spec = tie.close (tie.spec link-at-requires returns)

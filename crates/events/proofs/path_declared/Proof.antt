@@ -59,8 +59,8 @@ returns-2 c = let a = c.before.before.before.args in
     let e : c.before.loop.h ≡ a.n = omega arith in
     sym (ap (λ (h : ℕ). path_declared_in a.t.now a.s.now a.at h) (sym e) ∙ c.before.loop.invariant.1)
 
-pub path_declared_spec : {M : Type 1} → statement M
-path_declared_spec =
+pub path-declared-spec : {M : Type 1} → statement M
+path-declared-spec =
     tie.close
     (tie.spec
     invariant-loop

@@ -19,7 +19,7 @@ send-on-requires c κs = search rules
 returns : tie.Need-returns
 returns c = rw (← c.before.before.before.before.before.before.put-path.ensures, ← c.before.before.before.before.put-hops.ensures, ← c.before.before.put-source.ensures) c.send-on.ensures
 
-pub write_join_spec : {M : Type 1} → statement M
-write_join_spec =
+pub write-join-spec : {M : Type 1} → statement M
+write-join-spec =
     tie.close
     (tie.spec put-path-requires put-hops-requires put-source-requires send-on-requires returns)

@@ -19,7 +19,7 @@ send-on-requires c κs = search rules
 returns : tie.Need-returns
 returns c = rw (← c.before.before.before.before.before.before.remove.ensures, ← c.before.before.before.before.put-place.ensures, ← c.before.before.send-all.ensures) c.send-on.ensures
 
-pub write_link_spec : {M : Type 1} → statement M
-write_link_spec =
+pub write-link-spec : {M : Type 1} → statement M
+write-link-spec =
     tie.close
     (tie.spec remove-requires put-place-requires send-all-requires send-on-requires returns)

@@ -16,6 +16,6 @@ send-on-requires c κs = search rules
 returns : tie.Need-returns
 returns c = rw (← c.before.before.before.before.remove.ensures, ← c.before.before.put-source.ensures) c.send-on.ensures
 
-pub write_source_spec : {M : Type 1} → statement M
-write_source_spec =
+pub write-source-spec : {M : Type 1} → statement M
+write-source-spec =
     tie.close (tie.spec remove-requires put-source-requires send-on-requires returns)

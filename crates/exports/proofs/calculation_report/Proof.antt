@@ -24,7 +24,7 @@ returns c = ap calculation_report_of (sym c.before.answer.given.1)
 returns-2 : tie.Need-returns-2
 returns-2 c = rw c.number.ensures (ap calculation_report_of (sym c.before.before.answer2.given.1))
 
-pub calculation_report_spec : {M : Type 1} → statement M
-calculation_report_spec =
+pub calculation-report-spec : {M : Type 1} → statement M
+calculation-report-spec =
     tie.close
     (tie.spec enum-known-answer cast-t7 enum-known-answer-2 number-requires returns returns-2)

@@ -21,5 +21,5 @@ returns c = ap (end_report_of c.before.before.args.taken) (sym c.enum_told.given
 returns-2 : tie.Need-returns-2
 returns-2 c = rw c.number.ensures (ap (end_report_of c.before.before.before.before.args.taken) (sym c.before.before.end.given.1))
 
-pub end_report_spec : {M : Type 1} → statement M
-end_report_spec = tie.close (tie.spec enum_told enum-known-end number-requires returns returns-2)
+pub end-report-spec : {M : Type 1} → statement M
+end-report-spec = tie.close (tie.spec enum_told enum-known-end number-requires returns returns-2)

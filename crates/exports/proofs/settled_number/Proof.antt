@@ -27,7 +27,7 @@ returns-2 c = search rules
 returns-3 : tie.Need-returns-3
 returns-3 c = c.number.ensures ∙ ap settled_number_of (sym c.before.before.answer.given.1)
 
-pub settled_number_spec : {M : Type 1} → statement M
-settled_number_spec =
+pub settled-number-spec : {M : Type 1} → statement M
+settled-number-spec =
     tie.close
     (tie.spec enum_told enum-told-2 enum-known-answer number-requires returns returns-2 returns-3)

@@ -18,5 +18,5 @@ returns c = search rules
 returns-2 : tie.Need-returns-2
 returns-2 c = ap told_report_of (sym c.before.told.given.1)
 
-pub told_report_spec : {M : Type 1} → statement M
-told_report_spec = tie.close (tie.spec enum_told enum-known-told returns returns-2)
+pub told-report-spec : {M : Type 1} → statement M
+told-report-spec = tie.close (tie.spec enum_told enum-known-told returns returns-2)

@@ -1,7 +1,7 @@
 -- `exports::umbraconga_calculate` meets its contract: the report and the slices are those of `calculate`.
 -- Assumes nothing.
 use Rattle.calculation.specs.Calculating.{calculate_of}
-use Rattle.exports.proofs.Reported.{binds-where-taken, calculation_reported, fair-where-taken}
+use Rattle.exports.proofs.Reported.{binds_where_taken, calculation_reported, fair_where_taken}
 use borrow.Author.Rules.{rules}
 use Rattle.exports.proofs.umbraconga_calculate.Statement.{statement}
 use Rattle.exports.proofs.umbraconga_calculate.Tie as tie
@@ -29,11 +29,11 @@ returns c =
     let o = calculate_of a.records.now a.nums.now a.dens.now a.places.now in
     let r = c.before.before.before.before.before.before.before.calculate.result in (
       (calculation_reported _ _ o q.0.0 e, q.0.1, q.0.2, q.0.3),
-      (fair-where-taken _ _ _ _ r e q.1.1.0, binds-where-taken _ _ _ _ _ r e q.1.1.1),
+      (fair_where_taken _ _ _ _ r e q.1.1.0, binds_where_taken _ _ _ _ _ r e q.1.1.1),
     )
 
-pub umbraconga_calculate_spec : {M : Type 1} → statement M
-umbraconga_calculate_spec =
+pub umbraconga-calculate-spec : {M : Type 1} → statement M
+umbraconga-calculate-spec =
     tie.close
     (tie.spec
     calculate-requires

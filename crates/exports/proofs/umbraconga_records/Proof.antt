@@ -2,7 +2,7 @@
 -- Assumes nothing.
 use mathlib.Core.Path.{ap, ◌∙◌}
 use Rattle.exports.specs.Reports.{wrote_report_of}
-use Rattle.exports.proofs.Reported.{records-mean}
+use Rattle.exports.proofs.Reported.{records_mean}
 use borrow.Author.Rules.{rules}
 use Rattle.exports.proofs.umbraconga_records.Statement.{statement}
 use Rattle.exports.proofs.umbraconga_records.Tie as tie
@@ -20,9 +20,9 @@ returns : tie.Need-returns
 returns c =
     let e = c.before.before.before.write-records.ensures in (
       (c.wrote-report.ensures ∙ ap wrote_report_of e.0.0, e.0.1),
-      records-mean _ _ _ c.before.before.before.write-records.result _ c.wrote-report.ensures e.1,
+      records_mean _ _ _ c.before.before.before.write-records.result _ c.wrote-report.ensures e.1,
     )
 
-pub umbraconga_records_spec : {M : Type 1} → statement M
-umbraconga_records_spec =
+pub umbraconga-records-spec : {M : Type 1} → statement M
+umbraconga-records-spec =
     tie.close (tie.spec write-records-requires wrote-report-requires same_length returns)

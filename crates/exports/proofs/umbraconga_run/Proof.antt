@@ -14,5 +14,5 @@ end-report-requires c κs = search rules
 returns : tie.Need-returns
 returns c = run_reported _ _ _ _ c.before.run.ensures.0 c.end-report.ensures
 
-pub umbraconga_run_spec : {M : Type 1} → statement M
-umbraconga_run_spec = tie.close (tie.spec run-requires end-report-requires returns)
+pub umbraconga-run-spec : {M : Type 1} → statement M
+umbraconga-run-spec = tie.close (tie.spec run-requires end-report-requires returns)

@@ -16,5 +16,5 @@ settled-number-requires c κs = search rules
 returns : tie.Need-returns
 returns c = (c.settled-number.ensures ∙ ap settled_number_of c.before.settled.ensures.0, settled_means _ _ c.before.settled.result c.settled-number.ensures c.before.settled.ensures.1)
 
-pub umbraconga_settled_spec : {M : Type 1} → statement M
-umbraconga_settled_spec = tie.close (tie.spec settled-requires settled-number-requires returns)
+pub umbraconga-settled-spec : {M : Type 1} → statement M
+umbraconga-settled-spec = tie.close (tie.spec settled-requires settled-number-requires returns)

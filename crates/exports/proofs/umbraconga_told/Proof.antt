@@ -14,5 +14,5 @@ session-report-requires c κs = search rules
 returns : tie.Need-returns
 returns c = c.session-report.ensures ∙ c.before.session-at.ensures.1
 
-pub umbraconga_told_spec : {M : Type 1} → statement M
-umbraconga_told_spec = tie.close (tie.spec session-at-requires session-report-requires returns)
+pub umbraconga-told-spec : {M : Type 1} → statement M
+umbraconga-told-spec = tie.close (tie.spec session-at-requires session-report-requires returns)

@@ -21,6 +21,6 @@ returns c = ap wrote_report_of (sym c.before.answer.given.1)
 returns-2 : tie.Need-returns-2
 returns-2 c = rw c.number.ensures (ap wrote_report_of (sym c.before.before.answer2.given.1))
 
-pub wrote_report_spec : {M : Type 1} → statement M
-wrote_report_spec =
+pub wrote-report-spec : {M : Type 1} → statement M
+wrote-report-spec =
     tie.close (tie.spec enum-known-answer enum-known-answer-2 number-requires returns returns-2)

@@ -7,8 +7,8 @@ use native.Mathlib.Omega.{arith}
 use lib.Count.{ones}
 use lib.ListN.{get_or, get_or-replicate, length}
 use Rattle.sessions.proofs.Counts.{ones_in_lem, ones_zero}
-use Rattle.sessions.proofs.Walks.{next-below, next-less}
-use Rattle.filling.proofs.Visits.{Visited, visited-all, visited-none, visited-turn}
+use Rattle.sessions.proofs.Walks.{next_below, next_less}
+use Rattle.filling.proofs.Visits.{Visited, visited_all, visited_none, visited_turn}
 use Rattle.filling.proofs.counted.Statement.{statement}
 use Rattle.filling.proofs.counted.Tie as tie
 
@@ -20,13 +20,13 @@ decreases-loop busy at count₀ left₀ count left = left
 
 -- the next member, and that less is left without it
 small : (c : tie.After-next-link invariant-loop decreases-loop) → c.next-link.result < 64
-small c = let z = c.before.before.loop in next-below 64 z.left c.next-link.result (omega arith) z.invariant.0 c.next-link.ensures
+small c = let z = c.before.before.loop in next_below 64 z.left c.next-link.result (omega arith) z.invariant.0 c.next-link.ensures
 
 less : (c : tie.After-cut-link invariant-loop decreases-loop) → c.cut-link.result < c.before.before.before.before.before.loop.left
 less c =
     let z = c.before.before.before.before.before.loop in
     let n = c.before.before.before.next-link in
-    next-less 64 z.left n.result (omega arith) z.invariant.0 n.ensures c.cut-link.result c.cut-link.ensures
+    next_less 64 z.left n.result (omega arith) z.invariant.0 n.ensures c.cut-link.result c.cut-link.ensures
 
 loop-holds : tie.Need-loop-init invariant-loop decreases-loop
 loop-holds c =
@@ -34,7 +34,7 @@ loop-holds c =
     let p = c.requires in
     let long : length a.count.now ≡ 64 = ap length p.1 in (
       omega arith,
-      visited-none _ a.count.now a.busy
+      visited_none _ a.count.now a.busy
           (λ j k q.
           ap (λ l. get_or l j 0) p.1 ∙ get_or-replicate 64 j 0 0 (omega (arith, long)) ∙ sym (ap ones (p.0 j (omega (arith, long)) q) ∙ ones_zero)),
       long,
@@ -78,7 +78,7 @@ loop-again c =
     let h = small c.before.before.before in
     let word = ones_in_lem 32 (get_or a.at.now e 0) (omega (arith, c.before.before.before.before.before.before.requires.2 e h)) in (
       omega (arith, less c),
-      visited-turn _ _ z.left e c.cut-link.result z.count c.before.size.result (omega (arith, h, z.invariant.2)) (c.before.size.ensures ∙ sym word)
+      visited_turn _ _ z.left e c.cut-link.result z.count c.before.size.result (omega (arith, h, z.invariant.2)) (c.before.size.ensures ∙ sym word)
           c.cut-link.ensures z.invariant.1,
       z.invariant.2,
     )
@@ -86,7 +86,7 @@ loop-again c =
 returns : tie.Need-returns invariant-loop decreases-loop
 returns c =
     let z = c.before.loop in
-    (λ e h. visited-all _ _ z.left z.count (omega arith) z.invariant.1 e (omega (arith, z.invariant.2)), z.invariant.1.long ∙ z.invariant.2)
+    (λ e h. visited_all _ _ z.left z.count (omega arith) z.invariant.1 e (omega (arith, z.invariant.2)), z.invariant.1.long ∙ z.invariant.2)
 
 pub counted_spec : {M : Type 1} → statement M
 counted_spec =

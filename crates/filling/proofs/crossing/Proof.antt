@@ -6,7 +6,7 @@ use Prim.Native.Nat.{ℕ, ◌^◌, ◌<◌, ◌≤◌}
 use native.Mathlib.Omega.{arith}
 use Rattle.sessions.specs.Set.{cut, has}
 use Rattle.sessions.proofs.Members.{has_cut_le, has_lt}
-use Rattle.sessions.proofs.Walks.{next-below, next-has, next-less}
+use Rattle.sessions.proofs.Walks.{next_below, next_has, next_less}
 use Rattle.filling.specs.Crossings.{words_of}
 use Rattle.filling.proofs.Crossings.{Placed, placed_all, placed_none, placed_turn}
 use Rattle.filling.proofs.crossing.Statement.{statement}
@@ -21,16 +21,16 @@ decreases-loop path sessions at₀ busy₀ left₀ at busy left = left
 
 -- the next member, and that less is left without it
 small : (c : tie.After-next invariant-loop decreases-loop) → c.next.result < 32
-small c = let z = c.before.before.loop in next-below 32 z.left c.next.result (omega arith) z.invariant.0 c.next.ensures
+small c = let z = c.before.before.loop in next_below 32 z.left c.next.result (omega arith) z.invariant.0 c.next.ensures
 
 there : (c : tie.After-next invariant-loop decreases-loop) → has c.next.result c.before.before.loop.left ≡ 1
-there c = let z = c.before.before.loop in next-has 32 z.left c.next.result (omega arith) z.invariant.0 c.next.ensures
+there c = let z = c.before.before.loop in next_has 32 z.left c.next.result (omega arith) z.invariant.0 c.next.ensures
 
 less : (c : tie.After-cut invariant-loop decreases-loop) → c.cut.result < c.before.before.before.before.before.loop.left
 less c =
     let z = c.before.before.before.before.before.loop in
     let n = c.before.before.before.next in
-    next-less 32 z.left n.result (omega arith) z.invariant.0 n.ensures c.cut.result c.cut.ensures
+    next_less 32 z.left n.result (omega arith) z.invariant.0 n.ensures c.cut.result c.cut.ensures
 
 loop-holds : tie.Need-loop-init invariant-loop decreases-loop
 loop-holds c =
@@ -70,8 +70,8 @@ returns c =
     let a = c.before.before.args in
     placed_all a.path.now a.sessions z.left (words_of z.busy z.at) (omega arith) z.invariant.2
 
-pub crossing_spec : {M : Type 1} → statement M
-crossing_spec =
+pub crossing-spec : {M : Type 1} → statement M
+crossing-spec =
     tie.close
     (tie.spec
     invariant-loop

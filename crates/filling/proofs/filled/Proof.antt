@@ -12,11 +12,11 @@ use Rattle.filling.specs.OneRound.{Running}
 use Rattle.filling.specs.SmallestShare.{GivenAmong, GivenFits, limits_of, room_of, word_of}
 use Rattle.filling.specs.State.{Fill, fill_of, links_of}
 use Rattle.filling.specs.declared.Given.{Given}
-use Rattle.filling.proofs.AfterRound.{den-after, fewer, running}
-use Rattle.filling.proofs.BeginAndEnd.{end-filled, start_running}
+use Rattle.filling.proofs.AfterRound.{den_after, fewer, running}
+use Rattle.filling.proofs.BeginAndEnd.{end_filled, start_running}
 use Rattle.filling.proofs.Chosen.{joined}
-use Rattle.filling.proofs.LinksOfRound.{enough, links-after, shares_fit}
-use Rattle.filling.proofs.RoundOfFigure1.{den-before, others, rate-before, turn}
+use Rattle.filling.proofs.LinksOfRound.{enough, links_after, shares_fit}
+use Rattle.filling.proofs.RoundOfFigure1.{den_before, others, rate_before, turn}
 use Rattle.filling.proofs.filled.Statement.{statement}
 use Rattle.filling.proofs.filled.Tie as tie
 
@@ -97,7 +97,7 @@ least-link-requires c κs = shares_fit c.before.before.before.before.before.befo
 least-own-requires : tie.Need-least-own-requires invariant-loop decreases-loop
 least-own-requires c κs =
     let run = c.before.before.before.before.before.before.before.loop.invariant in
-    (c.before.before.before.least-link.ensures.fits, den-before c.before.before.before.before.before.before.before.before.before.before.before.before.before.before.before.before.before.before.before.before.args.t1 _ run, run.ranges.access)
+    (c.before.before.before.least-link.ensures.fits, den_before c.before.before.before.before.before.before.before.before.before.before.before.before.before.before.before.before.before.before.before.before.args.t1 _ run, run.ranges.access)
 
 all-at-requires : tie.Need-all-at-requires invariant-loop decreases-loop
 all-at-requires c κs = search rules
@@ -117,7 +117,7 @@ rates-after-requires c κs =
       fits p,
       record {
         long = run.rates;
-        small = rate-before (lines p) (state p) run;
+        small = rate_before (lines p) (state p) run;
         others = others (lines p) (state p) run (given p) (best p) (chosen_lt p);
       },
     )
@@ -129,7 +129,7 @@ mul-den c =
     let x = c.rates-after.ensures in
     omega (
       arith,
-      den-after (lines p) (state p) run (given p) (chosen_lt p) _ x.long
+      den_after (lines p) (state p) run (given p) (chosen_lt p) _ x.long
           (turn (lines p) (state p) run (given p) (best p) (chosen_lt p) (some_open p) _ x),
     )
 
@@ -146,7 +146,7 @@ loop-again c =
     let p = c.before.before.before.before.before.before.before.before.before.before.before in
     let run = p.before.before.before.before.before.before.before.before.before.before.before.loop.invariant in
     let x = c.rates-after.ensures in
-    let links = links-after (lines p) (state p) run (given p) (best p) _ c.before.before.before.before.before.before.before.before.before.grow.ensures _ c.before.before.leave-all.ensures in
+    let links = links_after (lines p) (state p) run (given p) (best p) _ c.before.before.before.before.before.before.before.before.before.grow.ensures _ c.before.before.leave-all.ensures in
     running (lines p) (state p) run (given p) (chosen_lt p) _ x.long
     (turn (lines p) (state p) run (given p) (best p) (chosen_lt p) (some_open p) _ x) _ links
 
@@ -154,10 +154,10 @@ returns : tie.Need-returns invariant-loop decreases-loop
 returns c =
     let z = c.before.loop in
     let d = c.before.before.before.before.before.before.before.before.before.before.before.before.before.before.args.t1 in
-    end-filled d (fill_of z.den z.opens (links_of z.busy z.room z.at z.count z.last) z.rate) z.invariant (omega arith)
+    end_filled d (fill_of z.den z.opens (links_of z.busy z.room z.at z.count z.last) z.rate) z.invariant (omega arith)
 
-pub filled_spec : {M : Type 1} → statement M
-filled_spec =
+pub filled-spec : {M : Type 1} → statement M
+filled-spec =
     tie.close
     (tie.spec
     invariant-loop

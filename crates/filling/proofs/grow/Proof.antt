@@ -11,8 +11,8 @@ use lib.Dec.{eqb}
 use lib.ListN.{get_or}
 use Rattle.sessions.specs.Set.{has}
 use Rattle.sessions.proofs.Members.{has_cut_le, has_lt}
-use Rattle.sessions.proofs.Walks.{next-below, next-has, next-less}
-use Rattle.filling.proofs.Visits.{Visited, visited-all, visited-none, visited-turn}
+use Rattle.sessions.proofs.Walks.{next_below, next_has, next_less}
+use Rattle.filling.proofs.Visits.{Visited, visited_all, visited_none, visited_turn}
 use Rattle.filling.proofs.grow.Statement.{statement}
 use Rattle.filling.proofs.grow.Tie as tie
 
@@ -27,16 +27,16 @@ decreases-loop room₀ busy by left₀ room left = left
 
 -- the next member, and that less is left without it
 small : (c : tie.After-next-link invariant-loop decreases-loop) → c.next-link.result < 64
-small c = let z = c.before.before.loop in next-below 64 z.left c.next-link.result (omega arith) z.invariant.0 c.next-link.ensures
+small c = let z = c.before.before.loop in next_below 64 z.left c.next-link.result (omega arith) z.invariant.0 c.next-link.ensures
 
 there : (c : tie.After-next-link invariant-loop decreases-loop) → has c.next-link.result c.before.before.loop.left ≡ 1
-there c = let z = c.before.before.loop in next-has 64 z.left c.next-link.result (omega arith) z.invariant.0 c.next-link.ensures
+there c = let z = c.before.before.loop in next_has 64 z.left c.next-link.result (omega arith) z.invariant.0 c.next-link.ensures
 
 less : (c : tie.After-cut-link invariant-loop decreases-loop) → c.cut-link.result < c.before.before.before.before.loop.left
 less c =
     let z = c.before.before.before.before.loop in
     let n = c.before.before.next-link in
-    next-less 64 z.left n.result (omega arith) z.invariant.0 n.ensures c.cut-link.result c.cut-link.ensures
+    next_less 64 z.left n.result (omega arith) z.invariant.0 n.ensures c.cut-link.result c.cut-link.ensures
 
 returns : tie.Need-returns invariant-loop decreases-loop
 returns c =
@@ -47,7 +47,7 @@ loop-holds : tie.Need-loop-init invariant-loop decreases-loop
 loop-holds c =
     let a = c.before.args in (
       omega arith,
-      visited-none _ a.room.now a.busy (λ j k q. rw (ne_eqb (has j a.busy) 1 (λ e. omega arith)) refl),
+      visited_none _ a.room.now a.busy (λ j k q. rw (ne_eqb (has j a.busy) 1 (λ e. omega arith)) refl),
       λ j. omega arith,
     )
 
@@ -93,7 +93,7 @@ loop-again c =
     let new : get_or z.room e 0 * a.by ≡ cond (eqb (has e a.busy) 1) (get_or a.room.now e 0 * a.by) (get_or a.room.now e 0) =
     rw (eq-eqb (has e a.busy) 1 mine) (ap (λ (y : ℕ). y * a.by) (z.invariant.1.rest e (there n))) in (
       omega (arith, less c),
-      visited-turn _ _ z.left e v.result z.room _ (omega (arith, small n, c.before.before.before.before.before.before.requires.1)) new v.ensures z.invariant.1,
+      visited_turn _ _ z.left e v.result z.room _ (omega (arith, small n, c.before.before.before.before.before.before.requires.1)) new v.ensures z.invariant.1,
       λ j. omega (arith, ap (has j) v.ensures, has_cut_le j e z.left, z.invariant.2 j),
     )
 
@@ -102,7 +102,7 @@ returns-2 c =
     let z = c.before.loop in
     let a = c.before.before.before.args in
     let p = c.before.before.before.requires in
-    let all = visited-all _ _ z.left z.room (omega arith) z.invariant.1 in
+    let all = visited_all _ _ z.left z.room (omega arith) z.invariant.1 in
     record {
       long = z.invariant.1.long;
       at = λ e h m. all e (omega (arith, p.1)) ∙ rw (eq-eqb (has e a.busy) 1 m) refl;

@@ -36,8 +36,8 @@ returns-2 c =
     joins_one a.e a.s (words_of a.busy a.at.now) c.before.put.result c.put-link.result c.before.before.before.before.requires.1 (omega arith) c.before.put.ensures
     c.put-link.ensures
 
-pub join_spec : {M : Type 1} → statement M
-join_spec =
+pub join-spec : {M : Type 1} → statement M
+join-spec =
     tie.close
     (tie.spec
     returns

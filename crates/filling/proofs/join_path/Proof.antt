@@ -51,8 +51,8 @@ returns c =
     let z = c.before.loop in
     joins_all a.path.now a.s z.h (words_of a.busy a.at.now) (words_of z.next z.at) (omega arith) z.invariant.2
 
-pub join_path_spec : {M : Type 1} → statement M
-join_path_spec =
+pub join-path-spec : {M : Type 1} → statement M
+join-path-spec =
     tie.close
     (tie.spec
     invariant-loop

@@ -4,7 +4,7 @@ use mathlib.Core.Path.{sym, subst}
 use Prim.Native.Nat.{ℕ, ◌^◌, ◌<◌}
 use native.Mathlib.Omega.{arith}
 use borrow.Author.Rules.{rules}
-use Rattle.sessions.proofs.Walks.{next-below, next-less}
+use Rattle.sessions.proofs.Walks.{next_below, next_less}
 use lib.Pow.{pow-lt}
 use Rattle.filling.specs.SmallestShare.{SmallestAmong, SmallestFits, count_of, room_of}
 use Rattle.filling.proofs.SmallestOfAll.{best_first, best_link, best_links, seen_links}
@@ -23,13 +23,13 @@ decreases-loop busy room count l₀ left₀ l left = left
 
 -- the next member, and that less is left without it
 small : (c : tie.After-next-link invariant-loop decreases-loop) → c.next-link.result < 64
-small c = let z = c.before.before.loop in next-below 64 z.left c.next-link.result (omega arith) z.invariant.0 c.next-link.ensures
+small c = let z = c.before.before.loop in next_below 64 z.left c.next-link.result (omega arith) z.invariant.0 c.next-link.ensures
 
 less : (c : tie.After-cut-link invariant-loop decreases-loop) → c.cut-link.result < c.before.before.before.before.before.before.before.loop.left
 less c =
     let z = c.before.before.before.before.before.before.before.loop in
     let n = c.before.before.before.before.before.next-link in
-    next-less 64 z.left n.result (omega arith) z.invariant.0 n.ensures c.cut-link.result c.cut-link.ensures
+    next_less 64 z.left n.result (omega arith) z.invariant.0 n.ensures c.cut-link.result c.cut-link.ensures
 
 loop-holds : tie.Need-loop-init invariant-loop decreases-loop
 loop-holds c =
@@ -96,8 +96,8 @@ returns c =
     let z = c.before.loop in
     record { fits = z.invariant.1; among = λ den opens D. best_links _ _ z.left _ (omega arith) (z.invariant.2 den opens D) }
 
-pub least_link_spec : {M : Type 1} → statement M
-least_link_spec =
+pub least-link-spec : {M : Type 1} → statement M
+least-link-spec =
     tie.close
     (tie.spec
     invariant-loop

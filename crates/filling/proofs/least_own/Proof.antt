@@ -10,7 +10,7 @@ use lib.ListN.{get_or}
 use Rattle.fractions.specs.Fraction.{max_rate}
 use Rattle.sessions.specs.Set.{cut, has}
 use Rattle.sessions.proofs.Members.{has_cut_le, has_lt}
-use Rattle.sessions.proofs.Walks.{next-below, next-has, next-less}
+use Rattle.sessions.proofs.Walks.{next_below, next_has, next_less}
 use lib.Pow.{pow-lt}
 use Rattle.declarations.proofs.OwnLimit.{own_limit_le}
 use Rattle.filling.specs.SmallestShare.{SmallestAmong, SmallestFits, below, count_of, limits_of, parts_limit, room_of, smaller_of}
@@ -32,16 +32,16 @@ decreases-loop den opens access maximum now₀ left₀ now left = left
 
 -- the next member, and that less is left without it
 small : (c : tie.After-next invariant-loop decreases-loop) → c.next.result < 32
-small c = let z = c.before.before.loop in next-below 32 z.left c.next.result (omega arith) z.invariant.0 c.next.ensures
+small c = let z = c.before.before.loop in next_below 32 z.left c.next.result (omega arith) z.invariant.0 c.next.ensures
 
 there : (c : tie.After-next invariant-loop decreases-loop) → has c.next.result c.before.before.loop.left ≡ 1
-there c = let z = c.before.before.loop in next-has 32 z.left c.next.result (omega arith) z.invariant.0 c.next.ensures
+there c = let z = c.before.before.loop in next_has 32 z.left c.next.result (omega arith) z.invariant.0 c.next.ensures
 
 less : (c : tie.After-cut invariant-loop decreases-loop) → c.cut.result < c.before.before.before.before.before.before.before.before.loop.left
 less c =
     let z = c.before.before.before.before.before.before.before.before.loop in
     let n = c.before.before.before.before.before.before.next in
-    next-less 32 z.left n.result (omega arith) z.invariant.0 n.ensures c.cut.result c.cut.ensures
+    next_less 32 z.left n.result (omega arith) z.invariant.0 n.ensures c.cut.result c.cut.ensures
 
 -- den times an own limit fits
 room_fits : (c : tie.After-own-limit invariant-loop decreases-loop) → c.before.before.before.before.before.before.args.den * c.own_limit.result ≤ parts_limit
@@ -125,8 +125,8 @@ returns c =
     let z = c.before.loop in
     record { fits = z.invariant.2; among = λ room count q. best_all _ _ z.left _ (omega arith) (z.invariant.3 room count q) }
 
-pub least_own_spec : {M : Type 1} → statement M
-least_own_spec =
+pub least-own-spec : {M : Type 1} → statement M
+least-own-spec =
     tie.close
     (tie.spec
     invariant-loop

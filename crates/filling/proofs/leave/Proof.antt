@@ -11,7 +11,7 @@ use Rattle.sessions.specs.Set.{has}
 use Rattle.sessions.proofs.Members.{is_in, is_out}
 use Rattle.fractions.proofs.Cases.{not_true, not-false}
 use Rattle.filling.specs.State.{links_of}
-use Rattle.filling.proofs.LeavingALink.{leaves-one, leaves_out, leaves_skip}
+use Rattle.filling.proofs.LeavingALink.{leaves_one, leaves_out, leaves_skip}
 use Rattle.filling.proofs.leave.Statement.{statement}
 use Rattle.filling.proofs.leave.Tie as tie
 
@@ -97,7 +97,7 @@ returns-3 c =
     let p = c.before.before.before.before in
     let q = c.before.before.before.before.before.before.before.before.before.requires in
     let e = enough p in
-    leaves-one a.e a.s a.share (links_of a.busy a.room.now a.at.now a.count.now a.last.now) p.cut.result _ _ c.cut-link.result
+    leaves_one a.e a.s a.share (links_of a.busy a.room.now a.at.now a.count.now a.last.now) p.cut.result _ _ c.cut-link.result
     _ q.1 (omega arith) q.0 (open_there p) p.cut.ensures (omega (arith, e.0)) (omega (arith, e.1))
     (inl (c.before.if3.true, c.cut-link.ensures, refl))
 
@@ -107,7 +107,7 @@ returns-4 c =
     let p = c.before.before.before in
     let q = c.before.before.before.before.before.before.before.before.requires in
     let e = enough p in
-    leaves-one a.e a.s a.share (links_of a.busy a.room.now a.at.now a.count.now a.last.now) p.cut.result _ _ a.busy
+    leaves_one a.e a.s a.share (links_of a.busy a.room.now a.at.now a.count.now a.last.now) p.cut.result _ _ a.busy
     _ q.1 (omega arith) q.0 (open_there p) p.cut.ensures (omega (arith, e.0)) (omega (arith, e.1)) (inr (omega arith, refl, refl))
 
 pub leave_spec : {M : Type 1} → statement M

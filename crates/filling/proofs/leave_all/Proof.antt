@@ -6,9 +6,9 @@ use Prim.Native.Nat.{ℕ, ◌^◌, ◌<◌, ◌≤◌}
 use native.Mathlib.Omega.{arith}
 use Rattle.sessions.specs.Set.{cut, has}
 use Rattle.sessions.proofs.Members.{has_cut_le, has_lt}
-use Rattle.sessions.proofs.Walks.{next-below, next-has, next-less}
+use Rattle.sessions.proofs.Walks.{next_below, next_has, next_less}
 use Rattle.filling.specs.State.{links_of}
-use Rattle.filling.proofs.Leaving.{Departed, departed_all, departed_none, departed-turn, leavable-turn}
+use Rattle.filling.proofs.Leaving.{Departed, departed_all, departed_none, departed_turn, leavable_turn}
 use Rattle.filling.proofs.leave_all.Statement.{statement}
 use Rattle.filling.proofs.leave_all.Tie as tie
 
@@ -23,16 +23,16 @@ decreases-loop path chosen share busy room₀ at₀ count₀ last₀ next₀ lef
 
 -- the next member, and that less is left without it
 small : (c : tie.After-next invariant-loop decreases-loop) → c.next.result < 32
-small c = let z = c.before.before.loop in next-below 32 z.left c.next.result (omega arith) z.invariant.0 c.next.ensures
+small c = let z = c.before.before.loop in next_below 32 z.left c.next.result (omega arith) z.invariant.0 c.next.ensures
 
 there : (c : tie.After-next invariant-loop decreases-loop) → has c.next.result c.before.before.loop.left ≡ 1
-there c = let z = c.before.before.loop in next-has 32 z.left c.next.result (omega arith) z.invariant.0 c.next.ensures
+there c = let z = c.before.before.loop in next_has 32 z.left c.next.result (omega arith) z.invariant.0 c.next.ensures
 
 less : (c : tie.After-cut invariant-loop decreases-loop) → c.cut.result < c.before.before.before.before.before.before.before.before.loop.left
 less c =
     let z = c.before.before.before.before.before.before.before.before.loop in
     let n = c.before.before.before.before.before.before.next in
-    next-less 32 z.left n.result (omega arith) z.invariant.0 n.ensures c.cut.result c.cut.ensures
+    next_less 32 z.left n.result (omega arith) z.invariant.0 n.ensures c.cut.result c.cut.ensures
 
 loop-holds : tie.Need-loop-init invariant-loop decreases-loop
 loop-holds c =
@@ -52,7 +52,7 @@ leave-path-requires c κs =
     let n = c.before.before.before.before in (
       small n,
       z.invariant.2.long c.before.before.before.before.before.before.before.requires.whole,
-      leavable-turn a.path.now a.chosen z.left a.share (links_of a.busy a.room.now a.at.now a.count.now a.last.now)
+      leavable_turn a.path.now a.chosen z.left a.share (links_of a.busy a.room.now a.at.now a.count.now a.last.now)
           (links_of z.next z.room z.at z.count z.last) z.invariant.2 n.next.result (there n) c.before.before.before.before.before.before.before.requires,
     )
 
@@ -72,7 +72,7 @@ loop-again c =
     let mine : has s a.chosen ≡ 1 = omega (arith, has_lt s a.chosen, z.invariant.1 s (small n), there n) in (
       omega (arith, less c),
       λ j l. omega (arith, ap (has j) v.ensures, has_cut_le j s z.left, z.invariant.1 j l),
-      departed-turn a.path.now a.chosen z.left a.share (links_of a.busy a.room.now a.at.now a.count.now a.last.now)
+      departed_turn a.path.now a.chosen z.left a.share (links_of a.busy a.room.now a.at.now a.count.now a.last.now)
           (links_of z.next z.room z.at z.count z.last) z.invariant.2 s (there n) v.result _ mine v.ensures c.before.leave-path.ensures,
     )
 
@@ -83,8 +83,8 @@ returns c =
     departed_all a.path.now a.chosen z.left a.share (links_of a.busy a.room.now a.at.now a.count.now a.last.now)
     (links_of z.next z.room z.at z.count z.last) (omega arith) z.invariant.2
 
-pub leave_all_spec : {M : Type 1} → statement M
-leave_all_spec =
+pub leave-all-spec : {M : Type 1} → statement M
+leave-all-spec =
     tie.close
     (tie.spec
     invariant-loop

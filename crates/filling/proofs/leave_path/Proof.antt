@@ -7,7 +7,7 @@ use native.Mathlib.Omega.{arith}
 use Rattle.filling.specs.OneRound.{Leaves}
 use Rattle.filling.specs.State.{links_of}
 use Rattle.filling.proofs.Crossings.{some_hop}
-use Rattle.filling.proofs.Leaving.{leavable-next, leaves_all, leaves_next, leaves_none}
+use Rattle.filling.proofs.Leaving.{leavable_next, leaves_all, leaves_next, leaves_none}
 use Rattle.filling.proofs.leave_path.Statement.{statement}
 use Rattle.filling.proofs.leave_path.Tie as tie
 
@@ -39,7 +39,7 @@ leave-requires c κs =
     let p = c.before.before.before.before.before.before.before.requires in (
       p.0,
       z.invariant.2.long p.1,
-      leavable-next a.path.now a.s a.share z.h (links_of a.busy a.room.now a.at.now a.count.now a.last.now)
+      leavable_next a.path.now a.s a.share z.h (links_of a.busy a.room.now a.at.now a.count.now a.last.now)
           (links_of z.next z.room z.at z.count z.last) _ refl z.invariant.2 c.before.before.before.before.before.loop-test.true p.2,
     )
 
@@ -66,8 +66,8 @@ returns c =
     leaves_all a.path.now a.s a.share z.h (links_of a.busy a.room.now a.at.now a.count.now a.last.now)
     (links_of z.next z.room z.at z.count z.last) (omega arith) z.invariant.2
 
-pub leave_path_spec : {M : Type 1} → statement M
-leave_path_spec =
+pub leave-path-spec : {M : Type 1} → statement M
+leave-path-spec =
     tie.close
     (tie.spec
     invariant-loop

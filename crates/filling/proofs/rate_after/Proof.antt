@@ -23,5 +23,5 @@ returns-2 : tie.Need-returns-2
 unfolding rate_after
 returns-2 c = simp (sym c.before.has.ensures, c.if1.false)
 
-pub rate_after_spec : {M : Type 1} → statement M
-rate_after_spec = tie.close (tie.spec has-requires returns mul-result returns-2)
+pub rate-after-spec : {M : Type 1} → statement M
+rate-after-spec = tie.close (tie.spec has-requires returns mul-result returns-2)

@@ -6,10 +6,10 @@ use Prim.Native.Nat.{◌^◌, ◌<◌}
 use native.Mathlib.Omega.{arith}
 use lib.ListN.{get_or, length}
 use Rattle.sessions.specs.Set.{cut, has}
-use Rattle.sessions.proofs.Walks.{next-below, next-has, next-less}
+use Rattle.sessions.proofs.Walks.{next_below, next_has, next_less}
 use Rattle.filling.specs.OneRound.{rate_after}
 use Rattle.filling.proofs.Rates.{rate_still}
-use Rattle.filling.proofs.Visits.{Visited, visited-all, visited-none, visited-turn}
+use Rattle.filling.proofs.Visits.{Visited, visited_all, visited_none, visited_turn}
 use Rattle.filling.proofs.rates_after.Statement.{statement}
 use Rattle.filling.proofs.rates_after.Tie as tie
 
@@ -21,23 +21,23 @@ decreases-loop rate₀ these l left₀ rate left = left
 
 -- the next member, and that less is left without it
 small : (c : tie.After-next invariant-loop decreases-loop) → c.next.result < 32
-small c = let z = c.before.before.loop in next-below 32 z.left c.next.result (omega arith) z.invariant.0 c.next.ensures
+small c = let z = c.before.before.loop in next_below 32 z.left c.next.result (omega arith) z.invariant.0 c.next.ensures
 
 there : (c : tie.After-next invariant-loop decreases-loop) → has c.next.result c.before.before.loop.left ≡ 1
-there c = let z = c.before.before.loop in next-has 32 z.left c.next.result (omega arith) z.invariant.0 c.next.ensures
+there c = let z = c.before.before.loop in next_has 32 z.left c.next.result (omega arith) z.invariant.0 c.next.ensures
 
 less : (c : tie.After-cut invariant-loop decreases-loop) → c.cut.result < c.before.before.before.before.before.loop.left
 less c =
     let z = c.before.before.before.before.before.loop in
     let n = c.before.before.before.next in
-    next-less 32 z.left n.result (omega arith) z.invariant.0 n.ensures c.cut.result c.cut.ensures
+    next_less 32 z.left n.result (omega arith) z.invariant.0 n.ensures c.cut.result c.cut.ensures
 
 loop-holds : tie.Need-loop-init invariant-loop decreases-loop
 loop-holds c =
     let a = c.args in
     let x = a.rate.now in
     let p = c.requires.1 in
-    (omega arith, visited-none _ x a.these (λ j k q. rate_still a.l (get_or x j 0) j (p.others j (omega (arith, p.long)) q)))
+    (omega arith, visited_none _ x a.these (λ j k q. rate_still a.l (get_or x j 0) j (p.others j (omega (arith, p.long)) q)))
 
 next-requires : tie.Need-next-requires invariant-loop decreases-loop
 next-requires c κs = search rules
@@ -80,7 +80,7 @@ loop-again c =
     let r = z.invariant.1.rest s (there n) in
     let h : s < length c.before.before.before.before.before.before.args.rate.now = omega (arith, small n, c.before.before.before.before.before.before.requires.1.long) in (
       omega (arith, less c),
-      visited-turn _ _ z.left s c.cut.result z.rate x.result h (x.ensures ∙ rw r refl) c.cut.ensures z.invariant.1,
+      visited_turn _ _ z.left s c.cut.result z.rate x.result h (x.ensures ∙ rw r refl) c.cut.ensures z.invariant.1,
     )
 
 returns : tie.Need-returns invariant-loop decreases-loop
@@ -88,12 +88,12 @@ returns c =
     let z = c.before.loop in
     let p = c.before.before.requires.1 in
     record {
-      rate = λ s h. visited-all _ _ z.left z.rate (omega arith) z.invariant.1 s (omega (arith, p.long));
+      rate = λ s h. visited_all _ _ z.left z.rate (omega arith) z.invariant.1 s (omega (arith, p.long));
       long = z.invariant.1.long ∙ p.long;
     }
 
-pub rates_after_spec : {M : Type 1} → statement M
-rates_after_spec =
+pub rates-after-spec : {M : Type 1} → statement M
+rates-after-spec =
     tie.close
     (tie.spec
     invariant-loop

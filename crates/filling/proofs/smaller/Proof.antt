@@ -7,7 +7,7 @@ use native.Mathlib.Nat.{mul-le-mul, one-mul}
 use native.Mathlib.Omega.{arith}
 use borrow.Author.Tests.{eq-eqb}
 use Rattle.filling.specs.SmallestShare.{parts_limit, smaller_of}
-use Rattle.filling.proofs.SmallestShare.{smaller-less, smaller-more, smaller-same}
+use Rattle.filling.proofs.SmallestShare.{smaller_less, smaller_more, smaller_same}
 use Rattle.filling.proofs.smaller.Statement.{statement}
 use Rattle.filling.proofs.smaller.Tie as tie
 
@@ -39,20 +39,20 @@ returns-2 : tie.Need-returns-2
 returns-2 c =
     let a = c.before.before.before.args in
     let p = c.before in
-    smaller-less a.l a.room a.count a.own a.link _ _ (num_is p) (den_is p) p.before.if1.false (omega arith)
+    smaller_less a.l a.room a.count a.own a.link _ _ (num_is p) (den_is p) p.before.if1.false (omega arith)
 
 returns-3 : tie.Need-returns-3
 returns-3 c =
     let a = c.before.before.before.before.args in
     let p = c.before.before in
-    smaller-same a.l a.room a.count a.own a.link _ _ (num_is p) (den_is p) p.before.if1.false (omega arith) (omega arith)
+    smaller_same a.l a.room a.count a.own a.link _ _ (num_is p) (den_is p) p.before.if1.false (omega arith) (omega arith)
 
 returns-4 : tie.Need-returns-4
 returns-4 c =
     let a = c.before.before.before.before.args in
     let p = c.before.before in
-    smaller-more a.l a.room a.count a.own a.link _ _ (num_is p) (den_is p) p.before.if1.false (omega arith) c.if3.false
+    smaller_more a.l a.room a.count a.own a.link _ _ (num_is p) (den_is p) p.before.if1.false (omega arith) c.if3.false
 
-pub smaller_spec : {M : Type 1} → statement M
-smaller_spec =
+pub smaller-spec : {M : Type 1} → statement M
+smaller-spec =
     tie.close (tie.spec returns among-requires mul-mine mul-best returns-2 returns-3 returns-4)

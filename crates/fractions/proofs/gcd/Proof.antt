@@ -79,8 +79,8 @@ returns-3 c =
     leads_end (omega arith) s.ranges.b.fits c.before.loop.invariant
     (⊎_elim (λ w. inr (eqb-true y 1 (not-false (eqb y 1) w.1.left))) (λ w. inl w.left) c.loop-test.branch)
 
-pub gcd_spec : {M : Type 1} → statement M
-gcd_spec =
+pub gcd-spec : {M : Type 1} → statement M
+gcd-spec =
     tie.close
     (tie.spec
     invariant-loop

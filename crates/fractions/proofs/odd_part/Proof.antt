@@ -14,5 +14,5 @@ shr-result c = omega (arith, trailing_lt 64 c.args.x c.requires c.ranges.x.fits)
 returns : tie.Need-returns
 returns c = trailing_part 64 c.args.x c.requires c.ranges.x.fits
 
-pub odd_part_spec : {M : Type 1} → statement M
-odd_part_spec = tie.close (tie.spec cast-result shr-result returns)
+pub odd-part-spec : {M : Type 1} → statement M
+odd-part-spec = tie.close (tie.spec cast-result shr-result returns)

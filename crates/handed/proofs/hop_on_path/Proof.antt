@@ -17,5 +17,5 @@ returns-2 c = rw (c.before.if1.true, le-ltb _ _ c.if2.false)
 returns-3 : tie.Need-returns-3
 returns-3 c = rw c.if1.false
 
-pub hop_on_path_spec : {M : Type 1} → statement M
-hop_on_path_spec = tie.close (tie.spec add-result returns returns-2 returns-3)
+pub hop-on-path-spec : {M : Type 1} → statement M
+hop-on-path-spec = tie.close (tie.spec add-result returns returns-2 returns-3)

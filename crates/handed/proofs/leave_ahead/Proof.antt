@@ -33,6 +33,6 @@ returns-3 c =
     let d = sym c.before.before.is-leave.ensures ∙ not-false _ c.before.if2.false in
     rw (← c.before.before.before.before.before.packet_at.ensures, eq-eqb _ _ c.before.before.before.if1.false, d)
 
-pub leave_ahead_spec : {M : Type 1} → statement M
-leave_ahead_spec =
+pub leave-ahead-spec : {M : Type 1} → statement M
+leave-ahead-spec =
     tie.close (tie.spec packet-at-requires cast-if1 returns is-leave-requires returns-2 returns-3)

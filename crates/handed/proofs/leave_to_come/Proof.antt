@@ -54,8 +54,8 @@ returns-2 c =
     let e : l.i ≡ c.before.before.count.result = omega arith in
     rw (← c.before.before.count.ensures) (sym (ap not (ap (λ (m : ℕ). all m (λ k. not (leave_ahead a.t.now a.s a.h k))) (sym e) ∙ l.invariant.2)))
 
-pub leave_to_come_spec : {M : Type 1} → statement M
-leave_to_come_spec =
+pub leave-to-come-spec : {M : Type 1} → statement M
+leave-to-come-spec =
     tie.close
     (tie.spec
     invariant-loop

@@ -6,7 +6,7 @@ use lib.Bits.{bit_and, bit_or}
 use Rattle.fractions.proofs.Cases.{not-false, not_true}
 use Rattle.links.specs.declared.Link.{Link}
 use Rattle.handed.specs.OnceOver.{link_passes}
-use Rattle.handed.proofs.Holding.{empty-apart, empty-fits, empty_row, words_apart, words-meet}
+use Rattle.handed.proofs.Holding.{empty_apart, empty_fits, empty_row, words_apart, words_meet}
 use borrow.Author.Rules.{rules}
 use Rattle.handed.proofs.link_passes.Statement.{statement}
 use Rattle.handed.proofs.link_passes.Tie as tie
@@ -29,14 +29,14 @@ returns-2 c =
     let a = c.before.before.before.before.before.args in
     let d = sym c.before.before.before.before.link-fits.ensures ∙ not-false _ c.before.before.before.if1.false in
     let z = ap (λ (l : Link). bit_or l.r l.f) (sym c.before.before.link_at.ensures) ∙ c.if2.true in
-    rw (d, empty-apart a.t.now a.e z, empty_row a.t.now a.e z, empty-fits a.t.now a.e z)
+    rw (d, empty_apart a.t.now a.e z, empty_row a.t.now a.e z, empty_fits a.t.now a.e z)
 
 returns-3 : tie.Need-returns-3
 unfolding link_passes
 returns-3 c =
     let a = c.before.before.before.before.before.before.before.args in
     let d = sym c.before.before.before.before.before.before.link-fits.ensures ∙ not-false _ c.before.before.before.before.before.if1.false in
-    let m = words-meet a.t.now a.e (omega (arith, ap (λ (l : Link). bit_and l.r l.f) c.before.before.before.before.link_at.ensures, c.if3.true)) in
+    let m = words_meet a.t.now a.e (omega (arith, ap (λ (l : Link). bit_and l.r l.f) c.before.before.before.before.link_at.ensures, c.if3.true)) in
     rw (d, m)
 
 row-passes-requires : tie.Need-row-passes-requires
@@ -65,8 +65,8 @@ returns-5 c =
     let r = sym c.before.before.row-passes.ensures ∙ not-false _ c.before.if4.false in
     rw (d, m, r) c.sum-fits.ensures
 
-pub link_passes_spec : {M : Type 1} → statement M
-link_passes_spec =
+pub link-passes-spec : {M : Type 1} → statement M
+link-passes-spec =
     tie.close
     (tie.spec
     link-fits-requires

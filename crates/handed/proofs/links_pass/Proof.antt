@@ -49,8 +49,8 @@ returns-2 c =
     let e : l.e ≡ 64 = omega arith in
     sym (ap (λ (k : ℕ). all k (link_passes a.t.now)) (sym e) ∙ l.invariant.1)
 
-pub links_pass_spec : {M : Type 1} → statement M
-links_pass_spec =
+pub links-pass-spec : {M : Type 1} → statement M
+links-pass-spec =
     tie.close
     (tie.spec
     invariant-loop

@@ -54,8 +54,8 @@ returns-4 c =
     let a = sym c.before.before.active-at.ensures ∙ c.before.if3.false in
     rw (← c.before.before.before.before.before.before.hop-of.ensures, lt-ltb 0 _ h, d, a) c.leave_to_come_lem.ensures
 
-pub member_passes_spec : {M : Type 1} → statement M
-member_passes_spec =
+pub member-passes-spec : {M : Type 1} → statement M
+member-passes-spec =
     tie.close
     (tie.spec
     hop-of-requires

@@ -64,8 +64,8 @@ returns-4 c =
     let p = sym c.before.before.before.hop_on_path_lem.ensures ∙ not-false _ c.before.before.if3.false in
     rw (d, ← c.before.before.before.before.before.before.before.packet_at.ensures, ← c.before.before.before.before.before.hops-at.ensures, lt-ltb 0 _ h, p, ← c.before.goes_down.ensures) c.same_way.ensures
 
-pub packet_passes_spec : {M : Type 1} → statement M
-packet_passes_spec =
+pub packet-passes-spec : {M : Type 1} → statement M
+packet-passes-spec =
     tie.close
     (tie.spec
     packet-fits-requires

@@ -54,8 +54,8 @@ returns-2 c =
     let e : l.i ≡ c.before.before.count.result = omega arith in
     rw (← c.before.before.count.ensures) (sym (ap (λ (k : ℕ). all k (packet_passes a.t.now)) (sym e) ∙ l.invariant.2))
 
-pub packets_pass_spec : {M : Type 1} → statement M
-packets_pass_spec =
+pub packets-pass-spec : {M : Type 1} → statement M
+packets-pass-spec =
     tie.close
     (tie.spec
     invariant-loop

@@ -10,7 +10,7 @@ use Rattle.records.proofs.Alls.{all_fails, all_next, all_none}
 use Rattle.table.proofs.InRange.{hops_most, stop_below}
 use Rattle.handed.specs.Handed.{stop_declared, stop_new}
 use Rattle.handed.specs.OnceOver.{path_passes}
-use Rattle.handed.proofs.Stops.{Seen, declared, seen_next, seen_none, stop-fresh, stop-old, undeclared}
+use Rattle.handed.proofs.Stops.{Seen, declared, seen_next, seen_none, stop_fresh, stop_old, undeclared}
 use borrow.Author.Rules.{rules}
 use Rattle.handed.proofs.path_passes.Statement.{statement}
 use Rattle.handed.proofs.path_passes.Tie as tie
@@ -61,7 +61,7 @@ returns-2 c =
     rw (← c.before.before.before.before.before.before.before.before.hops-at.ensures)
     (sym
     (all_fails c.before.before.before.before.before.before.before.before.hops-at.result (λ j. stop_declared a.t.now a.s j && stop_new a.t.now a.s j) l.i c.before.before.before.before.before.before.loop-test.true
-    (ap (λ (x : Bool). stop_declared a.t.now a.s l.i && x) (stop-old a.t.now a.s l.i _ q l.seen l.invariant.3 (sym c.before.has-link.ensures ∙ c.if2.true))
+    (ap (λ (x : Bool). stop_declared a.t.now a.s l.i && x) (stop_old a.t.now a.s l.i _ q l.seen l.invariant.3 (sym c.before.has-link.ensures ∙ c.if2.true))
     ∙ and_false (stop_declared a.t.now a.s l.i))))
 
 cast-put-link : tie.Need-overflow-cast-put-link invariant-loop decreases-loop
@@ -82,7 +82,7 @@ loop-again c =
     let l = c.before.before.before.before.before.before.before.before.loop in
     let q = c.before.before.before.before.before.before.stop-at.ensures in
     let d = declared a.t.now a.s l.i _ q _ c.before.before.before.before.before.link_at.ensures (omega (arith, c.before.before.before.if1.false)) in
-    let n = stop-fresh a.t.now a.s l.i _ q l.seen l.invariant.3 (sym c.before.before.has-link.ensures ∙ c.before.if2.false) in (
+    let n = stop_fresh a.t.now a.s l.i _ q l.seen l.invariant.3 (sym c.before.before.has-link.ensures ∙ c.before.if2.false) in (
       omega arith,
       l.invariant.1,
       all_next l.i (λ j. stop_declared a.t.now a.s j && stop_new a.t.now a.s j) l.invariant.2 (ap₂ ◌&&◌ d n),
@@ -97,8 +97,8 @@ returns-3 c =
     let e : l.i ≡ c.before.before.hops-at.result = omega arith in
     rw (← c.before.before.hops-at.ensures) (sym (ap (λ (k : ℕ). all k (λ j. stop_declared a.t.now a.s j && stop_new a.t.now a.s j)) (sym e) ∙ l.invariant.2))
 
-pub path_passes_spec : {M : Type 1} → statement M
-path_passes_spec =
+pub path-passes-spec : {M : Type 1} → statement M
+path-passes-spec =
     tie.close
     (tie.spec
     invariant-loop

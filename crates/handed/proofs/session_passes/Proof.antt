@@ -25,6 +25,6 @@ returns-2 c =
     let d = sym c.before.before.source_in_range_lem.ensures ∙ not-false _ c.before.if1.false in
     rw d c.path_passes_lem.ensures
 
-pub session_passes_spec : {M : Type 1} → statement M
-session_passes_spec =
+pub session-passes-spec : {M : Type 1} → statement M
+session-passes-spec =
     tie.close (tie.spec source-in-range-requires returns path-passes-requires returns-2)

@@ -49,8 +49,8 @@ returns-2 c =
     let e : l.s ≡ 32 = omega arith in
     sym (ap (λ (k : ℕ). all k (session_passes a.t.now)) (sym e) ∙ l.invariant.1)
 
-pub sessions_pass_spec : {M : Type 1} → statement M
-sessions_pass_spec =
+pub sessions-pass-spec : {M : Type 1} → statement M
+sessions-pass-spec =
     tie.close
     (tie.spec
     invariant-loop

@@ -38,8 +38,8 @@ returns-3 c =
     let d = sym c.before.before.before.before.standing-fits.ensures ∙ not-false _ c.before.before.before.if1.false in
     rw (d, ← c.before.before.hops-at.ensures, le-ltb _ _ c.before.if2.false, ← c.active-at.ensures)
 
-pub source_in_range_spec : {M : Type 1} → statement M
-source_in_range_spec =
+pub source-in-range-spec : {M : Type 1} → statement M
+source-in-range-spec =
     tie.close
     (tie.spec
     standing-fits-requires

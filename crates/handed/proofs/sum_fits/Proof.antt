@@ -51,8 +51,8 @@ returns-2 c =
     let d = sym (c.before.before.before.before.is-past-c.ensures ∙ ap is_past_c y) ∙ c.before.before.before.if1.false in
     rw (d, ← y, ← c.before.before.link_at.ensures, ← c.before.size.ensures) c.is-bound-fine.ensures
 
-pub sum_fits_spec : {M : Type 1} → statement M
-sum_fits_spec =
+pub sum-fits-spec : {M : Type 1} → statement M
+sum-fits-spec =
     tie.close
     (tie.spec
     sum-at-requires

@@ -8,5 +8,5 @@ use Rattle.lent.proofs.apart.Tie as tie
 returns : tie.Need-returns
 returns c = apart_word _ (omega arith)
 
-pub apart_spec : {M : Type 1} → statement M
-apart_spec = tie.close (tie.spec returns)
+pub apart-spec : {M : Type 1} → statement M
+apart-spec = tie.close (tie.spec returns)

@@ -4,7 +4,7 @@ use mathlib.Core.Path.{sym, ◌∙◌}
 use borrow.Author.Rules.{rules}
 use Rattle.fractions.proofs.Cases.{not-false, not_true}
 use Rattle.lent.proofs.Fitting.{fits_workable}
-use Rattle.lent.proofs.Whole.{check-12, check-14, check_done}
+use Rattle.lent.proofs.Whole.{check_12, check_14, check_done}
 use Rattle.lent.proofs.check.Statement.{statement}
 use Rattle.lent.proofs.check.Tie as tie
 
@@ -17,7 +17,7 @@ check-refused-requires c κs = search rules
 returns : tie.Need-returns
 returns c =
     let a = c.before.before in
-    c.check-refused.ensures ∙ check-14 _ _ a.before.well-formed.1.0.1.0.1 (sym a.fits2.ensures ∙ not_true _ c.before.if1.true)
+    c.check-refused.ensures ∙ check_14 _ _ a.before.well-formed.1.0.1.0.1 (sym a.fits2.ensures ∙ not_true _ c.before.if1.true)
 
 process-new-restricted-requires : tie.Need-process-new-restricted-requires
 process-new-restricted-requires c κs =
@@ -34,7 +34,7 @@ returns-2 c =
     let q = c.before.before.before.before.before.before in
     let a = q.before.before in
     c.check-refused2.ensures
-    ∙ check-12 _ _ a.before.well-formed.1.0.1.0.1 q.process-new-restricted.result (sym a.fits2.ensures ∙ not-false _ q.before.if1.false)
+    ∙ check_12 _ _ a.before.well-formed.1.0.1.0.1 q.process-new-restricted.result (sym a.fits2.ensures ∙ not-false _ q.before.if1.false)
     q.process-new-restricted.ensures (sym c.before.before.is-fine.ensures ∙ not_true _ c.before.if2.true)
 
 returns-3 : tie.Need-returns-3
@@ -44,8 +44,8 @@ returns-3 c =
     check_done _ _ a.before.well-formed.1.0.1.0.1 q.process-new-restricted.result (sym a.fits2.ensures ∙ not-false _ q.before.if1.false)
     q.process-new-restricted.ensures (sym c.before.is-fine.ensures ∙ not-false _ c.if2.false)
 
-pub check_spec : {M : Type 1} → statement M
-check_spec =
+pub check-spec : {M : Type 1} → statement M
+check-spec =
     tie.close
     (tie.spec
     fits-requires

@@ -65,7 +65,7 @@ use Rattle.lent.specs.contracts.Checking as K
 use Rattle.lent.proofs.Checking.TheLaws as K'
 use Rattle.lent.specs.contracts.FChecked as Q
 use Rattle.lent.proofs.FChecked.TheLaws as Q'
-use Rattle.lent.proofs.Calls.{Load, Parts, Store, Typed, array_owned, array_typed, goes_load, goes-store, link-typed, link_vals, load_of, short_is, short-typed, short_val, slice, slice_val_lem, to-load, to-store, triple}
+use Rattle.lent.proofs.Calls.{Load, Parts, Store, Typed, array_owned, array_typed, goes_load, goes_store, link_typed, link_vals, load_of, short_is, short_typed, short_val, slice, slice_val_lem, to_load, to_store, triple}
 use Rattle.lent.proofs.Rows.{field_array}
 use Rattle.lent.proofs.Shared.{lends_shared, shared_back}
 use Rattle.lent.proofs.Whole.{check_over, check_short, check_whole}
@@ -165,10 +165,10 @@ module _ {M : Type 1} {𝓤 : Ura M} (𝓛 : Logic 𝓤) (at_mem : Memory → SP
       nothing ! $ move ! (2 ∷ 0 ∷ []) $ fjoin ! $ move ! (1 ∷ 0 ∷ []) $ fjoin ! $ owned ! Q.the_row (Is Q.the_row) (EL.makes Q.the_type Q'.the_plain 𝓛) r _ is $ move ! (1 ∷ 0 ∷ []) $ done !
 
   -- what its triple binds outside, and that the caller has what it asks
-  abbrev to-check : List Entry → Val → (Check 𝓛 at_mem run).Ghost
-  to-check a w = ((tt, tt, tt, (h, (a, tt)), (link_vals h, (w ∷ [], tt))), tt)
+  abbrev to_check : List Entry → Val → (Check 𝓛 at_mem run).Ghost
+  to_check a w = ((tt, tt, tt, (h, (a, tt)), (link_vals h, (w ∷ [], tt))), tt)
 
-  goes_check : Is L.the_row h (link_vals h) → (a : List Entry) (w : Val) → Is (Array T.the_row 32) a (w ∷ []) → ent 𝓤 (emp 𝓤) ((Check 𝓛 at_mem run).pre (to-check a w))
+  goes_check : Is L.the_row h (link_vals h) → (a : List Entry) (w : Val) → Is (Array T.the_row 32) a (w ∷ []) → ent 𝓤 (emp 𝓤) ((Check 𝓛 at_mem run).pre (to_check a w))
   goes_check h-is a w is =
       qed 𝓛 [] ∵ nothing ! $ use0 𝓛 (‵ ((Array T.the_row 32).own_val a (w ∷ []))) (array_owned 𝓛 a w is) $ fjoin ! $
       owned ! L.the_row (Is L.the_row) (LL.makes L.the_type L'.the_plain 𝓛) h _ h-is $ fjoin ! $ nothing ! $ join ! $ frame ! $ done !
@@ -237,23 +237,23 @@ module _ {M : Type 1} {𝓤 : Ura M} (𝓛 : Logic 𝓤) (at_mem : Memory → SP
           opens ! tt L.the_row {h = h} b o (λ vs. spelt ! L.the_row (Is L.the_row) (shows 𝓛 L.the_row) link_vals (LL.tells L.the_type L'.the_laws) full_share h vs b o $
           move ! (1 ∷ []) $ peeks ! L.the_row (Is L.the_row) (shows 𝓛 L.the_row) h (link_vals h) (λ h-is. move ! (1 ∷ 0 ∷ []) $
           -- [the link's cell; what it owns; the open borrow; obs; auth; the slice's token; the slice; _14; …; _0; …]
-          assigns ! (of_opd ! (load ! (from ! (hop ! (look ! 33 refl) (stop !))) (look_raw ! 0 refl))) (from ! (stop !)) (init ! 29 refl (link-typed 𝓛 h _ h-is)) $
+          assigns ! (of_opd ! (load ! (from ! (hop ! (look ! 33 refl) (stop !))) (look_raw ! 0 refl))) (from ! (stop !)) (init ! 29 refl (link_typed 𝓛 h _ h-is)) $
           assigns ! (addr ! (from ! (fld ! refl (hop ! (look_in ! 31 (sub ! 0 refl (whole !))) (stop !))))) (from ! (stop !)) (init ! 15 refl (tt, tt)) $
           assigns ! (agg ! (and_then ! (load ! (from ! (stop !)) (look ! 15 refl)) (and_then ! (load ! (from ! (fld ! refl (stop !))) (look_in ! 31 (sub ! 1 refl (whole !)))) (no_more !)))) (from ! (stop !)) (init ! 13 refl (tt, (tt, (record { fits = room.0 }, tt)))) $
           -- the slice is lent as `&` for a lifetime ν of the call
           move ! (6 ∷ []) $ fsplit ! $ move ! (1 ∷ []) $ away ! $ move ! (6 ∷ []) $ split ! $ lft_new ! tt (λ ν. move ! (3 ∷ 1 ∷ []) $
           use2 𝓛 (later (some (λ (δ : GName). ‵ ((ShrSlice (named 0) (ν ∷ []) T.the_row).own_val (slice b' o' ys δ) (s ∷ [])) ⊛ ‵ (kept_s T.the_row κ' q' (ν ∷ []) γ' ys b' o')))) (lends_shared T.the_row κ' (ν ∷ []) q' γ' b' o' 𝓛 (named 1) (named 0) ys) $ await ! tt $ pick ! (λ δ. split ! $
-          move ! (2 ∷ 0 ∷ []) $ use2 𝓛 (raw ((Load 𝓛 at_mem run).pre (to-load 𝓛 at_mem run b' o' ys ν δ))) (goes_load 𝓛 at_mem run b' o' ys enough ν δ) $
+          move ! (2 ∷ 0 ∷ []) $ use2 𝓛 (raw ((Load 𝓛 at_mem run).pre (to_load 𝓛 at_mem run b' o' ys ν δ))) (goes_load 𝓛 at_mem run b' o' ys enough ν δ) $
           -- [what `load` asks; what is kept of the slice; true; the link's cell; what it owns; the open borrow; obs; auth; _14; …; _0; …]
-          calls_at ! fm (Load 𝓛 at_mem run) known-load (to-load 𝓛 at_mem run b' o' ys ν δ) (and_then ! (load ! (from ! (stop !)) (look ! 14 refl)) (no_more !)) (λ w₁.
+          calls_at ! fm (Load 𝓛 at_mem run) known-load (to_load 𝓛 at_mem run b' o' ys ν δ) (and_then ! (load ! (from ! (stop !)) (look ! 14 refl)) (no_more !)) (λ w₁.
           use1 𝓛 (later (some (λ (r : List Entry). ((‵ (flft (ν ∷ []) full_share) ⊛ ‵ ftrue) ⊛ ‵ ((Array T.the_row 32).own_val r (w₁ ∷ []))) ⊛ raw (ensured 𝓛 ld.ended (ld.clauses 𝓛 at_mem run) (ν ∷ [], tt) (slice b' o' ys δ, tt) tt r)))) (id⊢ 𝓤 _) $ await ! tt $ pick ! (λ a.
           split ! $ move ! (1 ∷ []) $ use1 𝓛 (raw (fact 𝓤 (a ≡ take 32 ys))) (load_of 𝓛 at_mem run (ν ∷ []) (slice b' o' ys δ) a) $ heard ! (a ≡ take 32 ys) (λ e₁. split ! $
           move ! (1 ∷ []) $ peeks ! (Array T.the_row 32) (Is (Array T.the_row 32)) (shows 𝓛 (Array T.the_row 32)) a (w₁ ∷ []) (λ a-is. away ! $
           land ! (from ! (stop !)) (init ! 28 refl (array_typed 𝓛 a w₁ a-is)) $
           split ! $ lft_end ! tt $ move ! (0 ∷ 2 ∷ []) $ use2 𝓛 (later (‵ ((MutSlice (named 1) κ' T.the_row).own_val (slice b' o' ys γ') (s ∷ [])) ⊛ ‵ (flft κ' q'))) (shared_back T.the_row κ' (ν ∷ []) q' γ' b' o' 𝓛 (named 1) (named 0) ys room) $ await ! tt $ split ! $
           -- [the slice; its token; true; true; the link's cell; what it owns; the open borrow; obs; auth; _14; …; _0; …]
-          use0 𝓛 (raw ((Check 𝓛 at_mem run).pre (to-check a w₁))) (goes_check h-is a w₁ a-is) $
-          calls_at ! fm (Check 𝓛 at_mem run) known-check (to-check a w₁) (and_then ! (load ! (from ! (stop !)) (look ! 32 refl)) (and_then ! (load ! (from ! (stop !)) (look ! 30 refl)) (no_more !))) (λ w₂.
+          use0 𝓛 (raw ((Check 𝓛 at_mem run).pre (to_check a w₁))) (goes_check h-is a w₁ a-is) $
+          calls_at ! fm (Check 𝓛 at_mem run) known-check (to_check a w₁) (and_then ! (load ! (from ! (stop !)) (look ! 32 refl)) (and_then ! (load ! (from ! (stop !)) (look ! 30 refl)) (no_more !))) (λ w₂.
           use1 𝓛 (later (some (λ (r : Checking). (‵ ftrue ⊛ ‵ ((K.the_row).own_val r (w₂ ∷ []))) ⊛ raw (ensured 𝓛 ck.ended (ck.clauses 𝓛 at_mem run) tt (h, (a, tt)) tt r)))) (id⊢ 𝓤 _) $ await ! tt $ pick ! (λ c.
           split ! $ move ! (1 ∷ []) $ use1 𝓛 (raw (fact 𝓤 (c ≡ f_check_of h a))) (check_of_lem 𝓛 at_mem run h a c) $ heard ! (c ≡ f_check_of h a) (λ e₂. split ! $ away ! $
           peeks ! K.the_row (Is K.the_row) (shows 𝓛 K.the_row) c (w₂ ∷ []) (λ c-was. away ! $
@@ -263,15 +263,15 @@ module _ {M : Type 1} {𝓤 : Ura M} (𝓛 : Logic 𝓤) (at_mem : Memory → SP
           assigns ! (addr ! (from ! (fld ! refl (hop ! (look_in ! 33 (sub ! 0 refl (whole !))) (stop !))))) (from ! (stop !)) (init ! 11 refl (tt, tt)) $
           assigns ! (agg ! (and_then ! (load ! (from ! (stop !)) (look ! 11 refl)) (and_then ! (load ! (from ! (fld ! refl (stop !))) (look_in ! 33 (sub ! 1 refl (whole !)))) (no_more !)))) (from ! (stop !)) (init ! 9 refl (tt, (tt, (record { fits = room.0 }, tt)))) $
           -- `store` takes the slice for good
-          move ! (1 ∷ 0 ∷ []) $ use2 𝓛 (raw ((Store 𝓛 at_mem run).pre (to-store 𝓛 at_mem run b' o' ys κ' q' γ' c.entries (parts c w₂ c-was).entries_val))) (goes-store 𝓛 at_mem run b' o' ys enough κ' q' γ' c.entries (parts c w₂ c-was).entries_val (parts c w₂ c-was).entries_is) $
-          calls_at ! fm (Store 𝓛 at_mem run) known_store (to-store 𝓛 at_mem run b' o' ys κ' q' γ' c.entries (parts c w₂ c-was).entries_val) (and_then ! (load ! (from ! (stop !)) (look ! 8 refl)) (and_then ! (load ! (from ! (stop !)) (look ! 24 refl)) (no_more !))) (λ w₃.
+          move ! (1 ∷ 0 ∷ []) $ use2 𝓛 (raw ((Store 𝓛 at_mem run).pre (to_store 𝓛 at_mem run b' o' ys κ' q' γ' c.entries (parts c w₂ c-was).entries_val))) (goes_store 𝓛 at_mem run b' o' ys enough κ' q' γ' c.entries (parts c w₂ c-was).entries_val (parts c w₂ c-was).entries_is) $
+          calls_at ! fm (Store 𝓛 at_mem run) known_store (to_store 𝓛 at_mem run b' o' ys κ' q' γ' c.entries (parts c w₂ c-was).entries_val) (and_then ! (load ! (from ! (stop !)) (look ! 8 refl)) (and_then ! (load ! (from ! (stop !)) (look ! 24 refl)) (no_more !))) (λ w₃.
           use1 𝓛 (later (some (λ (r : Unit {0}). ((‵ (flft κ' q') ⊛ ‵ ftrue) ⊛ ‵ (unit.own_val r (w₃ ∷ []))) ⊛ raw (ensured 𝓛 st.ended (st.clauses 𝓛 at_mem run) (κ', tt) (slice b' o' ys γ', (c.entries, tt)) tt r)))) (id⊢ 𝓤 _) $ await ! tt $ pick ! (λ r.
           split ! $ move ! (1 ∷ []) $ use1 𝓛 (some (λ (zs : List Entry × (Unit {0} × Unit {0})). ‵ (lasts st.ended (κ', tt) (slice b' o' ys γ', (c.entries, tt)) zs) ⊛ raw (fact 𝓤 (zs.0 ≡ c.entries ++ drop 32 ys)))) (id⊢ 𝓤 _) $ pick ! (λ zs.
           split ! $ move ! (1 ∷ []) $ heard ! (zs.0 ≡ c.entries ++ drop 32 ys) (λ e₃. fsplit ! $ fsplit ! $ move ! (1 ∷ []) $ feq_l ! (λ len.
           move ! (2 ∷ []) $ split ! $ move ! (1 ∷ []) $ peeks ! unit (Is unit) (shows 𝓛 unit) r (w₃ ∷ []) (λ u-is. away ! $
           -- [the slice's token; its last list; true; true; true; the link's cell; what it owned; the open borrow; obs; auth; _14; …; _0; …]
           land ! (from ! (stop !)) (init ! 14 refl ((Nothing-Lawful 𝓛).typed r _ u-is).0) $
-          assigns ! (of_opd ! (load ! (from ! (fld ! refl (stop !))) (look_in ! 28 (sub ! 0 refl (whole !))))) (from ! (hop ! (look ! 36 refl) (stop !))) (store_raw ! 5 refl (link-typed 𝓛 c.link _ (parts c w₂ c-was).link_is)) $
+          assigns ! (of_opd ! (load ! (from ! (fld ! refl (stop !))) (look_in ! 28 (sub ! 0 refl (whole !))))) (from ! (hop ! (look ! 36 refl) (stop !))) (store_raw ! 5 refl (link_typed 𝓛 c.link _ (parts c w₂ c-was).link_is)) $
           assigns ! (of_opd ! (load ! (from ! (fld ! refl (stop !))) (look_in ! 28 (sub ! 2 refl (whole !))))) (from ! (stop !)) (init ! 38 refl (Answer-typed c.answer (parts c w₂ c-was).answer_val (parts c w₂ c-was).answer_is)) $
           -- the link's borrow is closed at its new record
           move ! (5 ∷ 6 ∷ 7 ∷ 8 ∷ 9 ∷ []) $ move ! (1 ∷ []) $ away ! $ owned ! L.the_row (Is L.the_row) (LL.makes L.the_type L'.the_plain 𝓛) c.link _ (parts c w₂ c-was).link_is $ move ! (1 ∷ 0 ∷ []) $ closes ! tt L.the_row c.link (link_vals c.link) b o $
@@ -300,7 +300,7 @@ module _ {M : Type 1} {𝓤 : Ura M} (𝓛 : Logic 𝓤) (at_mem : Memory → SP
         qed 𝓛 ((‵ (flft κ q) ⊛ ‵ (flft κ' q') ⊛ ‵ ftrue) ∷ ‵ (owns (MutRef (named 0) κ L.the_row ∷ MutSlice (named 1) κ' T.the_row ∷ []) x at) ∷ []) ∵ enter ! C Λ code.function (vptr b o ∷ s ∷ []) _ $
         alloc1 ! (λ l₀. alloc1 ! (λ l₁. alloc1 ! (λ l₂. alloc1 ! (λ l₃. alloc1 ! (λ l₄. alloc1 ! (λ l₅. alloc1 ! (λ l₆. alloc1 ! (λ l₇. alloc1 ! (λ l₈. alloc1 ! (λ l₉. alloc1 ! (λ l₁₀. alloc1 ! (λ l₁₁. alloc1 ! (λ l₁₂. alloc1 ! (λ l₁₃. alloc1 ! (λ l₁₄. alloc0 ! $ params1 ! $
         pass1 ! (init ! 26 refl (tt, tt)) $ pass1 ! (init ! 24 refl (tt, (tt, (record { fits = room.0 }, tt)))) $ pass0 ! $
-        body R'.mir Q'.mir _ (short-typed 𝓛) (λ r w is. ((EL.lawful Q.the_type Q'.the_laws 𝓛 tt).typed r _ is).0) (λ c w is. ((LL.lawful K.the_type K'.the_laws 𝓛).typed c _ is).0)
+        body R'.mir Q'.mir _ (short_typed 𝓛) (λ r w is. ((EL.lawful Q.the_type Q'.the_laws 𝓛 tt).typed r _ is).0) (λ c w is. ((LL.lawful K.the_type K'.the_laws 𝓛).typed c _ is).0)
         l₀ l₁ l₂ l₃ l₄ l₅ l₆ l₇ l₈ l₉ l₁₀ l₁₁ l₁₂ l₁₃ l₁₄ t e)))))))))))))))
 
 module _ {M : Type 1} {𝓤 : Ura M} (𝓛 : Logic 𝓤) (at_mem : Memory → SProp 𝓤) (run : Routine → Fun 𝓤) where
@@ -321,9 +321,9 @@ meets : {M : Type 1} {𝓤 : Ura M} (𝓛 : Logic 𝓤) → (at_mem : Memory →
 meets {𝓤 = 𝓤} 𝓛 at_mem run 𝓣 known-load known-check known_store = walk_Meets 𝓛 f.ended stayed (goes 𝓛 at_mem run) (f.clauses 𝓛 at_mem run) (WpFn 𝓤 𝓛.H 𝓣.C 𝓣.Λ code.function) (WpFn-mono 𝓤 𝓛.H 𝓛.laws 𝓣 code.function)
     (walks 𝓛 at_mem run 𝓣.C 𝓣.Λ (fm_of 𝓤 𝓛.H 𝓛.laws 𝓣) known-load known-check known_store)
 
-pub f_check_spec : {M : Type 1} → stated.statement M
+pub f-check-spec : {M : Type 1} → stated.statement M
 unfolding code.routine tables_of
-f_check_spec 𝓤 𝓛 𝓜 𝓡 =
+f-check-spec 𝓤 𝓛 𝓜 𝓡 =
     entered 𝓤 𝓛.H (triple_of 𝓛 f.signature (f.spec 𝓛 𝓜.mem 𝓡.run))
     (tables 𝓤 𝓛.H 𝓜 𝓡 code.env).C (tables 𝓤 𝓛.H 𝓜 𝓡 code.env).Λ #lent·f-check code.function (code.unfolded 𝓤 𝓛.H 𝓜 𝓡)
     (meets 𝓛 𝓜.mem 𝓡.run (tables_of 𝓤 𝓛.H 𝓜 (tables 𝓤 𝓛.H 𝓜 𝓡 code.env))

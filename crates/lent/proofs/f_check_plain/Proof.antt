@@ -59,9 +59,9 @@ use Rattle.lent.specs.contracts.Checking as K
 use Rattle.lent.proofs.Checking.TheLaws as K'
 use Rattle.lent.specs.contracts.FChecked as Q
 use Rattle.lent.proofs.FChecked.TheLaws as Q'
-use Rattle.lent.proofs.Calls.{array_typed, link-typed, link_vals, slice, slice_val_lem, vals}
-use Rattle.lent.proofs.Rows.{array_field, array-out, array-in}
-use Rattle.lent.proofs.Records.{link-in, link-out}
+use Rattle.lent.proofs.Calls.{array_typed, link_typed, link_vals, slice, slice_val_lem, vals}
+use Rattle.lent.proofs.Rows.{array_field, array_out, array_in}
+use Rattle.lent.proofs.Records.{link_in, link_out}
 use Rattle.lent.specs.contracts.f_check as fc
 use Rattle.lent.proofs.f_check.Symbol as fc-def
 use Rattle.lent.proofs.f_check.Symbol.{name as #lent·f-check}
@@ -126,11 +126,11 @@ module _ {M : Type 1} {𝓤 : Ura M} (𝓛 : Logic 𝓤) (at_mem : Memory → SP
     abbrev s : Val
     s = slice_val_lem p' 0 es
 
-    abbrev to-call : ℕ → ℕ → GName → GName → (FCheck 𝓛 at_mem run).Ghost
-    to-call ν ν' γ γ' = (((ν ∷ [], (ν' ∷ [], tt)), (full_share, (full_share, tt)), tt, (ref γ, (slice p' 0 es γ', tt)), (vptr p 0 ∷ [], (s ∷ [], tt))), tt)
+    abbrev to_call : ℕ → ℕ → GName → GName → (FCheck 𝓛 at_mem run).Ghost
+    to_call ν ν' γ γ' = (((ν ∷ [], (ν' ∷ [], tt)), (full_share, (full_share, tt)), tt, (ref γ, (slice p' 0 es γ', tt)), (vptr p 0 ∷ [], (s ∷ [], tt))), tt)
 
     goes_call : (ν ν' : ℕ) (γ γ' : GName)
-        → ent 𝓤 (sep 𝓤 (sep 𝓤 (A.lft (ν ∷ []) full_share) (A.lft (ν' ∷ []) full_share)) (sep 𝓤 (sem 𝓛 ((MutRef (named 0) (ν ∷ []) L.the_row).own_val (ref γ) (vptr p 0 ∷ []))) (sem 𝓛 ((MutSlice (named 1) (ν' ∷ []) T.the_row).own_val (slice p' 0 es γ') (s ∷ []))))) ((FCheck 𝓛 at_mem run).pre (to-call ν ν' γ γ'))
+        → ent 𝓤 (sep 𝓤 (sep 𝓤 (A.lft (ν ∷ []) full_share) (A.lft (ν' ∷ []) full_share)) (sep 𝓤 (sem 𝓛 ((MutRef (named 0) (ν ∷ []) L.the_row).own_val (ref γ) (vptr p 0 ∷ []))) (sem 𝓛 ((MutSlice (named 1) (ν' ∷ []) T.the_row).own_val (slice p' 0 es γ') (s ∷ []))))) ((FCheck 𝓛 at_mem run).pre (to_call ν ν' γ γ'))
     goes_call ν ν' γ γ' =
         qed 𝓛 ((‵ (flft (ν ∷ []) full_share) ⊛ ‵ (flft (ν' ∷ []) full_share)) ∷ ‵ ((MutRef (named 0) (ν ∷ []) L.the_row).own_val (ref γ) (vptr p 0 ∷ [])) ∷ ‵ ((MutSlice (named 1) (ν' ∷ []) T.the_row).own_val (slice p' 0 es γ') (s ∷ [])) ∷ []) ∵
         split ! $ nothing ! $ move ! (2 ∷ 0 ∷ []) $ join ! $ move ! (1 ∷ 0 ∷ []) $ join ! $ move ! (1 ∷ 2 ∷ []) $
@@ -141,26 +141,26 @@ module _ {M : Type 1} {𝓤 : Ura M} (𝓛 : Logic 𝓤) (at_mem : Memory → SP
     walk =
         qed 𝓛 (‵ ftrue ∷ ‵ (owns (L.the_row ∷ Array T.the_row 32 ∷ []) x at) ∷ []) ∵ enter ! C Λ code.function (only (link_vals h) ∷ array_vals vals es) _ $
         alloc1 ! (λ l₀. alloc1 ! (λ l₁. alloc1 ! (λ l₂. alloc1 ! (λ l₃. alloc1 ! (λ l₄. alloc1 ! (λ l₅. alloc1 ! (λ l₆. alloc1 ! (λ l₇. alloc1 ! (λ l₈. alloc1 ! (λ l₉. alloc1 ! (λ l₁₀. alloc0 ! $ params1 ! $
-        pass1 ! (init ! 18 refl (link-typed 𝓛 h _ h-is)) $ pass1 ! (init ! 16 refl (array_typed 𝓛 es _ es-is)) $ pass0 ! $
+        pass1 ! (init ! 18 refl (link_typed 𝓛 h _ h-is)) $ pass1 ! (init ! 16 refl (array_typed 𝓛 es _ es-is)) $ pass0 ! $
         -- [_10; …; _0; …]
-        assigns ! (of_opd ! (load ! (from ! (stop !)) (look ! 18 refl))) (from ! (stop !)) (init ! 14 refl (link-typed 𝓛 h _ h-is)) $
+        assigns ! (of_opd ! (load ! (from ! (stop !)) (look ! 18 refl))) (from ! (stop !)) (init ! 14 refl (link_typed 𝓛 h _ h-is)) $
         assigns ! (of_opd ! (load ! (from ! (stop !)) (look ! 16 refl))) (from ! (stop !)) (init ! 12 refl (array_typed 𝓛 es _ es-is)) $
         assigns ! (addr ! (from ! (stop !))) (from ! (stop !)) (init ! 8 refl (tt, tt)) $
         assigns ! (addr ! (from ! (stop !))) (from ! (stop !)) (init ! 6 refl (tt, tt)) $
         assigns ! (agg ! (and_then ! (load ! (from ! (stop !)) (look ! 6 refl)) (and_then ! (lit ! tt) (no_more !)))) (from ! (stop !)) (init ! 4 refl (tt, (tt, (record { fits = lit< tt }, tt)))) $
         rewrite ! 4 (λ (m : ℕ). ‵ (fat full_share (slice_ty (ty_ref erased mut (pointee (T.the_row).written))) l₈ 0 (slice_val (l₄, 0) m))) (sym es_length) refl $
         -- the array is lent for a lifetime ν' of the call
-        move ! (12 ∷ []) $ use1 𝓛 (‵ (row T.the_row full_share es l₄ 0)) (array-out 𝓛 T.the_row tt 32 (LL.makes T.the_type T'.the_plain 𝓛) es _ l₄ 0 es-is) $ use1 𝓛 (‵ (cells (mem T.the_row) es l₄ 0)) (whole_in 𝓛 T.the_row es l₄ 0) $
+        move ! (12 ∷ []) $ use1 𝓛 (‵ (row T.the_row full_share es l₄ 0)) (array_out 𝓛 T.the_row tt 32 (LL.makes T.the_type T'.the_plain 𝓛) es _ l₄ 0 es-is) $ use1 𝓛 (‵ (cells (mem T.the_row) es l₄ 0)) (whole_in 𝓛 T.the_row es l₄ 0) $
         lft_new ! tt (λ ν'. move ! (1 ∷ []) $
         use1 𝓛 (later (some (λ (γ' : GName). ‵ ((MutSlice (named 1) (ν' ∷ []) T.the_row).own_val (slice l₄ 0 es γ') (s l₃ l₄ ∷ [])) ⊛ ‵ (flent (ν' ∷ []) (Held T.the_row (length es) l₄ 0 γ'))))) (lends_slice 𝓛 T.the_row (named 1) (ν' ∷ []) es l₄ 0 room) $ await ! tt $ pick ! (λ γ'. split ! $
         -- and the record for a lifetime ν
-        move ! (16 ∷ []) $ use1 𝓛 (‵ ((mem L.the_row).own_at h l₃ 0)) (link-in 𝓛 h _ l₃ 0 h-is) $
+        move ! (16 ∷ []) $ use1 𝓛 (‵ ((mem L.the_row).own_at h l₃ 0)) (link_in 𝓛 h _ l₃ 0 h-is) $
         lft_new ! tt (λ ν. move ! (1 ∷ []) $
         use1 𝓛 (later (some (λ (γ : GName). ‵ ((MutRef (named 0) (ν ∷ []) L.the_row).own_val (ref l₃ l₄ γ) (vptr l₃ 0 ∷ [])) ⊛ ‵ (flent (ν ∷ []) (Body (mem L.the_row) l₃ 0 γ))))) (lends_ref 𝓛 L.the_row (named 0) (ν ∷ []) h l₃ 0) $ await ! tt $ pick ! (λ γ. split ! $
         -- [the reference; its lender's part; ν's token; the slice; its lender's part; ν''s token; _10; …; _5; …; what frees _4; what frees _3; _2; …; _0; …]
-        move ! (2 ∷ 5 ∷ 0 ∷ 3 ∷ []) $ join ! $ use3 𝓛 (raw ((FCheck 𝓛 at_mem run).pre (to-call l₃ l₄ ν ν' γ γ'))) (goes_call l₃ l₄ ν ν' γ γ') $
+        move ! (2 ∷ 5 ∷ 0 ∷ 3 ∷ []) $ join ! $ use3 𝓛 (raw ((FCheck 𝓛 at_mem run).pre (to_call l₃ l₄ ν ν' γ γ'))) (goes_call l₃ l₄ ν ν' γ γ') $
         -- [what `f_check` asks; the two lenders' parts; _10; …]
-        calls_at ! fm (FCheck 𝓛 at_mem run) known (to-call l₃ l₄ ν ν' γ γ') (and_then ! (load ! (from ! (stop !)) (look ! 11 refl)) (and_then ! (load ! (from ! (stop !)) (look ! 7 refl)) (no_more !))) (λ w.
+        calls_at ! fm (FCheck 𝓛 at_mem run) known (to_call l₃ l₄ ν ν' γ γ') (and_then ! (load ! (from ! (stop !)) (look ! 11 refl)) (and_then ! (load ! (from ! (stop !)) (look ! 7 refl)) (no_more !))) (λ w.
         use1 𝓛 (later (some (λ (r : FChecked). ((‵ (flft (ν ∷ []) full_share) ⊛ ‵ (flft (ν' ∷ []) full_share) ⊛ ‵ ftrue) ⊛ ‵ ((Q.the_row).own_val r (w ∷ []))) ⊛ raw (ensured 𝓛 fc.ended (fc.clauses 𝓛 at_mem run) (ν ∷ [], (ν' ∷ [], tt)) (ref l₃ l₄ γ, (slice l₄ 0 es γ', tt)) tt r)))) (id⊢ 𝓤 _) $ await ! tt $ pick ! (λ r.
         split ! $ move ! (1 ∷ []) $ use1 𝓛 (some (λ (zs : Link × (List Entry × Unit {0})). ‵ (lasts fc.ended (ν ∷ [], (ν' ∷ [], tt)) (ref l₃ l₄ γ, (slice l₄ 0 es γ', tt)) zs) ⊛ raw (fact 𝓤 (Said r zs.0 zs.1.0)))) (id⊢ 𝓤 _) $ pick ! (λ zs.
         split ! $ move ! (1 ∷ []) $ heard ! (Said r zs.0 zs.1.0) (λ e. fsplit ! $ move ! (1 ∷ []) $ fsplit ! $ fsplit ! $ move ! (1 ∷ []) $ feq_l ! (λ len.
@@ -171,12 +171,12 @@ module _ {M : Type 1} {𝓤 : Ura M} (𝓛 : Logic 𝓤) (at_mem : Memory → SP
         split ! $ lft_end ! tt $ move ! (0 ∷ 5 ∷ 4 ∷ []) $ use3 𝓛 (later (‵ ((mem L.the_row).own_at zs.0 l₃ 0))) (ref_back 𝓛 L.the_row (ν ∷ []) γ zs.0 l₃ 0) $ await ! tt $
         move ! (1 ∷ []) $ split ! $ lft_end ! tt $ move ! (0 ∷ 5 ∷ 3 ∷ []) $ use3 𝓛 (later (‵ ((Arr (mem T.the_row) (length es)).own_at zs.1.0 l₄ 0))) (slice_back 𝓛 T.the_row (ν' ∷ []) γ' zs.1.0 (length es) l₄ 0) $ await ! tt $ fsplit ! $ away ! $
         use1 𝓛 (‵ (row T.the_row full_share zs.1.0 l₄ 0)) (whole_out 𝓛 T.the_row zs.1.0 l₄ 0) $
-        use1 𝓛 (given (Is (Array T.the_row 32) zs.1.0 (array_vals vals zs.1.0)) (‵ (cell_at full_share (Array T.the_row 32).mir (array_vals vals zs.1.0) l₄ 0))) (array-in 𝓛 T.the_row tt 32 vals (LL.tells T.the_type T'.the_laws) zs.1.0 l₄ 0 (len ∙ es_length)) $ learn ! (λ zs_is.
+        use1 𝓛 (given (Is (Array T.the_row 32) zs.1.0 (array_vals vals zs.1.0)) (‵ (cell_at full_share (Array T.the_row 32).mir (array_vals vals zs.1.0) l₄ 0))) (array_in 𝓛 T.the_row tt 32 vals (LL.tells T.the_type T'.the_laws) zs.1.0 l₄ 0 (len ∙ es_length)) $ learn ! (λ zs_is.
         use1 𝓛 (‵ (fat full_share (ty_array T'.mir 32) l₄ 0 (only (array_vals vals zs.1.0)))) (𝓛.laws.raw_at full_share (ty_array T'.mir 32) l₄ 0 (only (array_vals vals zs.1.0))) $
-        move ! (2 ∷ []) $ use1 𝓛 (given (Is L.the_row zs.0 (link_vals zs.0)) (‵ (cell_at full_share (L.the_row).mir (link_vals zs.0) l₃ 0))) (link-out 𝓛 zs.0 l₃ 0) $ learn ! (λ l-is.
+        move ! (2 ∷ []) $ use1 𝓛 (given (Is L.the_row zs.0 (link_vals zs.0)) (‵ (cell_at full_share (L.the_row).mir (link_vals zs.0) l₃ 0))) (link_out 𝓛 zs.0 l₃ 0) $ learn ! (λ l-is.
         use1 𝓛 (‵ (fat full_share L'.mir l₃ 0 (only (link_vals zs.0)))) (𝓛.laws.raw_at full_share L'.mir l₃ 0 (only (link_vals zs.0))) $
         -- [_3; _4; true; true; _10; …; _5; …; what frees _4; what frees _3; _2; …; _0; …]
-        assigns ! (of_opd ! (load ! (from ! (stop !)) (look ! 0 refl))) (from ! (stop !)) (init ! 6 refl (link-typed 𝓛 zs.0 _ l-is)) $
+        assigns ! (of_opd ! (load ! (from ! (stop !)) (look ! 0 refl))) (from ! (stop !)) (init ! 6 refl (link_typed 𝓛 zs.0 _ l-is)) $
         assigns ! (of_opd ! (load ! (from ! (stop !)) (look ! 1 refl))) (from ! (stop !)) (init ! 4 refl (array_typed 𝓛 zs.1.0 _ zs_is)) $
         assigns ! (agg ! (and_then ! (load ! (from ! (stop !)) (look ! 6 refl)) (and_then ! (load ! (from ! (stop !)) (look ! 4 refl)) (and_then ! (load ! (from ! (stop !)) (look ! 14 refl)) (no_more !))))) (from ! (stop !)) (init ! 22 refl ((LL.lawful K.the_type K'.the_laws 𝓛).typed (record { link = zs.0; entries = zs.1.0; answer = r }) _ (made zs.0 zs.1.0 r _ _ w l-is zs_is r-is)).0) $
         returns ! (look ! 22 refl) $ forget ! 0 refl $ forget ! 1 refl $ forget ! 4 refl $ forget ! 6 refl $ forget ! 8 refl $ forget ! 10 refl $ forget ! 12 refl $ forget ! 14 refl $ forget ! 18 refl $ forget ! 20 refl $ forget ! 22 refl $
@@ -198,9 +198,9 @@ meets : {M : Type 1} {𝓤 : Ura M} (𝓛 : Logic 𝓤) → (at_mem : Memory →
 meets {𝓤 = 𝓤} 𝓛 at_mem run 𝓣 known = walk_Meets 𝓛 f.ended stayed (goes 𝓛 at_mem run) (f.clauses 𝓛 at_mem run) (WpFn 𝓤 𝓛.H 𝓣.C 𝓣.Λ code.function) (WpFn-mono 𝓤 𝓛.H 𝓛.laws 𝓣 code.function)
     (walks 𝓛 at_mem run 𝓣.C 𝓣.Λ (fm_of 𝓤 𝓛.H 𝓛.laws 𝓣) known)
 
-pub f_check_plain_spec : {M : Type 1} → stated.statement M
+pub f-check-plain-spec : {M : Type 1} → stated.statement M
 unfolding code.routine tables_of
-f_check_plain_spec 𝓤 𝓛 𝓜 𝓡 =
+f-check-plain-spec 𝓤 𝓛 𝓜 𝓡 =
     entered 𝓤 𝓛.H (triple_of 𝓛 f.signature (f.spec 𝓛 𝓜.mem 𝓡.run))
     (tables 𝓤 𝓛.H 𝓜 𝓡 code.env).C (tables 𝓤 𝓛.H 𝓜 𝓡 code.env).Λ #lent·f-check-plain code.function (code.unfolded 𝓤 𝓛.H 𝓜 𝓡)
     (meets 𝓛 𝓜.mem 𝓡.run (tables_of 𝓤 𝓛.H 𝓜 (tables 𝓤 𝓛.H 𝓜 𝓡 code.env))

@@ -41,8 +41,8 @@ returns-3 c =
     let ranged = sym t.before.before.before.in-range.ensures ∙ not-false _ t.before.before.if1.false in
     rw (ranged, sym t.before.apart.ensures ∙ not-false _ t.if2.false) (ap not (c.is-past-c.ensures ∙ ap is_past_c c.before.sum-of-f.ensures.0))
 
-pub fits_spec : {M : Type 1} → statement M
-fits_spec =
+pub fits-spec : {M : Type 1} → statement M
+fits-spec =
     tie.close
     (tie.spec
     in-range-requires

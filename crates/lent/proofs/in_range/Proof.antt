@@ -17,5 +17,5 @@ returns-2 : tie.Need-returns-2
 unfolding in_range
 returns-2 c = rw (lt-leb _ _ c.if1.false)
 
-pub in_range_spec : {M : Type 1} → statement M
-in_range_spec = tie.close (tie.spec rates-fit-requires returns returns-2)
+pub in-range-spec : {M : Type 1} → statement M
+in-range-spec = tie.close (tie.spec rates-fit-requires returns returns-2)

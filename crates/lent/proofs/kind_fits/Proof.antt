@@ -55,8 +55,8 @@ returns-6 c = search rules
 returns-7 : tie.Need-returns-7
 returns-7 c = search rules
 
-pub kind_fits_spec : {M : Type 1} → statement M
-kind_fits_spec =
+pub kind-fits-spec : {M : Type 1} → statement M
+kind-fits-spec =
     tie.close
     (tie.spec
     enum-known-kind

@@ -50,7 +50,7 @@ use Rattle.links.specs.declared.Entry.{Entry}
 use Rattle.links.specs.Links.{no_entry}
 use Rattle.links.specs.contracts.Entry as T
 use Rattle.links.proofs.Entry.TheLaws as T'
-use Rattle.lent.proofs.Rows.{Upto, Nearer, Nearer-wf, mid, mid-next, mid-length, array-out, array-in}
+use Rattle.lent.proofs.Rows.{Upto, Nearer, Nearer-wf, mid, mid_next, mid_length, array_out, array_in}
 use Rattle.lent.specs.contracts.no_entries as ne
 use Rattle.lent.proofs.no_entries.Symbol as ne-def
 use Rattle.lent.proofs.no_entries.Symbol.{name as #lent·no-entries}
@@ -89,10 +89,10 @@ module _ {M : Type 1} {𝓤 : Ura M} (𝓛 : Logic 𝓤) (at_mem : Memory → SP
   Post = (walk_of 𝓛 f.ended stayed (f.clauses 𝓛 at_mem run)).post (((κ, tt), (q, tt), tt, x, at), tt)
 
   -- what `no_entries`'s triple binds outside: nothing, and nothing is asked
-  abbrev to-empty : (Empty 𝓛 at_mem run).Ghost
-  to-empty = ((tt, tt, tt, tt, tt), tt)
+  abbrev to_empty : (Empty 𝓛 at_mem run).Ghost
+  to_empty = ((tt, tt, tt, tt, tt), tt)
 
-  goes_empty : ent 𝓤 (emp 𝓤) ((Empty 𝓛 at_mem run).pre to-empty)
+  goes_empty : ent 𝓤 (emp 𝓤) ((Empty 𝓛 at_mem run).pre to_empty)
   goes_empty = qed 𝓛 [] ∵ nothing ! $ nothing ! $ join ! $ frame ! $ done !
 
   module _ (bs : List Entry) (bs-length : length bs ≡ 32) where
@@ -101,7 +101,7 @@ module _ {M : Type 1} {𝓤 : Ura M} (𝓛 : Logic 𝓤) (at_mem : Memory → SP
     zs = mid ys bs 32
 
     zs_length : length zs ≡ 32
-    zs_length = mid-length ys bs 32 enough (omega (arith, bs-length)) ∙ bs-length
+    zs_length = mid_length ys bs 32 enough (omega (arith, bs-length)) ∙ bs-length
 
     zs_is : zs ≡ take 32 ys
     zs_is = ap (λ (l : List Entry). take 32 ys ++ l) (subst (λ (n : ℕ). drop n bs ≡ []) bs-length (drop-length bs)) ∙ append-nil (take 32 ys)
@@ -162,7 +162,7 @@ module _ {M : Type 1} {𝓤 : Ura M} (𝓛 : Logic 𝓤) (at_mem : Memory → SP
           move ! (1 ∷ []) $ elem_out ! T.the_row (Is T.the_row) (shows 𝓛 T.the_row) vals (LL.tells T.the_type T'.the_laws) full_share (mid ys bs i.0) i.0 no_entry l₂ 0 in_mid (λ _.
           assigns ! (of_opd ! (load ! (from ! (stop !)) (look ! 12 refl))) (from ! (hop ! (look ! 6 refl) (stop !))) (store_raw ! 0 refl ((LL.lawful T.the_type T'.the_laws 𝓛).typed it _ g).0) $
           move ! (1 ∷ []) $ away ! $ owned ! T.the_row (Is T.the_row) (LL.makes T.the_type T'.the_plain 𝓛) it _ g $ move ! (1 ∷ 0 ∷ []) $ elem_put ! T.the_row full_share (mid ys bs i.0) i.0 it (vals it) l₂ 0 in_mid $
-          rewrite ! 0 (λ (l : List Entry). ‵ (row T.the_row full_share l l₂ 0)) (mid-next ys bs i.0 no_entry in_ys in_bs) refl $
+          rewrite ! 0 (λ (l : List Entry). ‵ (row T.the_row full_share l l₂ 0)) (mid_next ys bs i.0 no_entry in_ys in_bs) refl $
           assigns_last ! (bin ! (load ! (from ! (stop !)) (look ! 20 refl)) (lit ! tt) (record { fits = next_fits })) (from ! (stop !)) (store ! 20 refl (tt, record { fits = next_fits })) $
           forget ! 4 refl $ forget ! 6 refl $ forget ! 8 refl $ forget ! 10 refl $ forget ! 12 refl $ forget ! 14 refl $ forget ! 16 refl $ again ! (Nearer 32) At i (i.0 + 1, add-one-le less) (add-one-dec 32 i.0 less)))
         where
@@ -179,7 +179,7 @@ module _ {M : Type 1} {𝓤 : Ura M} (𝓛 : Logic 𝓤) (at_mem : Memory → SP
           in_bs = omega (arith, less, bs-length)
 
           in_mid : i.0 < length (mid ys bs i.0)
-          in_mid = subst (λ (n : ℕ). i.0 < n) (sym (mid-length ys bs i.0 (omega (arith, in_ys)) (omega (arith, in_bs)))) in_bs
+          in_mid = subst (λ (n : ℕ). i.0 < n) (sym (mid_length ys bs i.0 (omega (arith, in_ys)) (omega (arith, in_bs)))) in_bs
 
           at_fits : i.0 * 24 < 2 ^ 64
           at_fits = omega (arith, less)
@@ -191,7 +191,7 @@ module _ {M : Type 1} {𝓤 : Ura M} (𝓛 : Logic 𝓤) (at_mem : Memory → SP
           rewrite ! 16 (λ (t : Bool). ‵ (fat full_share ty_bool l₅ 0 (vbool t))) e refl $ leaves_loop ! (load ! (from ! (stop !)) (look ! 16 refl)) $ exec ! C Λ En code-mir.t-5 (at_ret En Post) $
           -- the array is one cell again, and is copied into the result
           rewrite ! 0 (λ (n : ℕ). ‵ (row T.the_row full_share (mid ys bs n) l₂ 0)) all refl $
-          use1 𝓛 (given (Is (Array T.the_row 32) zs (array_vals vals zs)) (‵ (cell_at full_share (Array T.the_row 32).mir (array_vals vals zs) l₂ 0))) (array-in 𝓛 T.the_row tt 32 vals (LL.tells T.the_type T'.the_laws) zs l₂ 0 zs_length) $ learn ! (λ is.
+          use1 𝓛 (given (Is (Array T.the_row 32) zs (array_vals vals zs)) (‵ (cell_at full_share (Array T.the_row 32).mir (array_vals vals zs) l₂ 0))) (array_in 𝓛 T.the_row tt 32 vals (LL.tells T.the_type T'.the_laws) zs l₂ 0 zs_length) $ learn ! (λ is.
           use1 𝓛 (‵ (fat full_share arr l₂ 0 (only (array_vals vals zs)))) (𝓛.laws.raw_at full_share arr l₂ 0 (only (array_vals vals zs))) $
           assigns ! (of_opd ! (load ! (from ! (stop !)) (look ! 0 refl))) (from ! (stop !)) (init ! 25 refl ((Array-Lawful 𝓛 T.the_row (LL.lawful T.the_type T'.the_laws 𝓛) 32).typed zs _ is).0) $
           -- the borrow is shut
@@ -211,14 +211,14 @@ module _ {M : Type 1} {𝓤 : Ura M} (𝓛 : Logic 𝓤) (at_mem : Memory → SP
       alloc1 ! (λ l₀. alloc1 ! (λ l₁. alloc1 ! (λ l₂. alloc1 ! (λ l₃. alloc1 ! (λ l₄. alloc1 ! (λ l₅. alloc1 ! (λ l₆. alloc1 ! (λ l₇. alloc1 ! (λ l₈. alloc1 ! (λ l₉. alloc1 ! (λ l₁₀. alloc1 ! (λ l₁₁. alloc0 ! $ params1 ! $
       pass1 ! (init ! 20 refl (tt, (tt, (record { fits = room.0 }, tt)))) $ pass0 ! $
       -- `no_entries`
-      use0 𝓛 (raw ((Empty 𝓛 at_mem run).pre to-empty)) goes_empty $ calls_at ! (fm_of 𝓤 H 𝓛.laws 𝓣) (Empty 𝓛 at_mem run) known to-empty (no_more !) (λ w.
+      use0 𝓛 (raw ((Empty 𝓛 at_mem run).pre to_empty)) goes_empty $ calls_at ! (fm_of 𝓤 H 𝓛.laws 𝓣) (Empty 𝓛 at_mem run) known to_empty (no_more !) (λ w.
       use1 𝓛 (later (some (λ (r : List Entry). (‵ ftrue ⊛ ‵ ((Array T.the_row 32).own_val r (w ∷ []))) ⊛ raw (ensured 𝓛 ne.ended (ne.clauses 𝓛 at_mem run) tt tt tt r)))) (id⊢ 𝓤 _) $ await ! tt $ pick ! (λ bs.
       split ! $ move ! (1 ∷ []) $ away ! $ split ! $ away ! $ peeks ! (Array T.the_row 32) (Is (Array T.the_row 32)) (shows 𝓛 (Array T.the_row 32)) bs (w ∷ []) (λ is. away ! $
       land ! (from ! (stop !)) (init ! 14 refl ((Array-Lawful 𝓛 T.the_row (LL.lawful T.the_type T'.the_laws 𝓛) 32).typed bs _ is).0) $
       assigns ! (of_opd ! (load ! (from ! (stop !)) (look ! 14 refl))) (from ! (stop !)) (init ! 18 refl ((Array-Lawful 𝓛 T.the_row (LL.lawful T.the_type T'.the_laws 𝓛) 32).typed bs _ is).0) $
       assigns ! (of_opd ! (lit ! tt)) (from ! (stop !)) (init ! 16 refl (tt, record { fits = lit< tt })) $
       -- the local array is taken for its elements
-      move ! (18 ∷ []) $ use1 𝓛 (‵ (row T.the_row full_share bs l₂ 0)) (array-out 𝓛 T.the_row tt 32 (LL.makes T.the_type T'.the_plain 𝓛) bs w l₂ 0 is) $ forget ! 15 refl $
+      move ! (18 ∷ []) $ use1 𝓛 (‵ (row T.the_row full_share bs l₂ 0)) (array_out 𝓛 T.the_row tt 32 (LL.makes T.the_type T'.the_plain 𝓛) bs w l₂ 0 is) $ forget ! 15 refl $
       -- and the borrow is looked into
       move ! (25 ∷ []) $ fsplit ! $ fsplit ! $ move ! (1 ∷ []) $ fsplit ! $ move ! (28 ∷ []) $ split ! $ move ! (3 ∷ 0 ∷ []) $
       looks_slice ! tt T.the_row (Is T.the_row) (shows 𝓛 T.the_row) vals (LL.tells T.the_type T'.the_laws) (LL.copy T.the_type T'.the_copy 𝓛) ys b o (λ q'.

@@ -65,8 +65,8 @@ returns-2 c =
     let e : l.s ≡ 32 = omega arith in
     sym (ap (λ (k : ℕ). all k (fit a.t1)) (sym e) ∙ l.invariant.1)
 
-pub rates_fit_spec : {M : Type 1} → statement M
-rates_fit_spec =
+pub rates-fit-spec : {M : Type 1} → statement M
+rates-fit-spec =
     tie.close
     (tie.spec
     invariant-loop

@@ -4,7 +4,7 @@ use mathlib.Core.Path.{sym, ◌∙◌}
 use borrow.Author.Rules.{rules}
 use Rattle.fractions.proofs.Cases.{not-false, not_true}
 use Rattle.lent.proofs.Fitting.{step_fits_all}
-use Rattle.lent.proofs.Whole.{step-12, step-14, step-done}
+use Rattle.lent.proofs.Whole.{step_12, step_14, step_done_lem}
 use Rattle.lent.proofs.step.Statement.{statement}
 use Rattle.lent.proofs.step.Tie as tie
 
@@ -17,7 +17,7 @@ step-refused-requires c κs = search rules
 returns : tie.Need-returns
 returns c =
     let a = c.before.before in
-    c.step-refused.ensures ∙ step-14 _ _ _ _ _ a.before.well-formed.1.1.1.1.0.1.0.1 (sym a.step-fits.ensures ∙ not_true _ c.before.if1.true)
+    c.step-refused.ensures ∙ step_14 _ _ _ _ _ a.before.well-formed.1.1.1.1.0.1.0.1 (sym a.step-fits.ensures ∙ not_true _ c.before.if1.true)
 
 link-step-requires : tie.Need-link-step-requires
 link-step-requires c κs =
@@ -31,14 +31,14 @@ returns-2 c =
     let d = c.before.before.before.before.before.before in
     let a = d.before.before in
     c.step-refused2.ensures
-    ∙ step-12 _ _ _ _ _ a.before.well-formed.1.1.1.1.0.1.0.1 d.link-step.result (sym a.step-fits.ensures ∙ not-false _ d.before.if1.false)
+    ∙ step_12 _ _ _ _ _ a.before.well-formed.1.1.1.1.0.1.0.1 d.link-step.result (sym a.step-fits.ensures ∙ not-false _ d.before.if1.false)
     d.link-step.ensures (not_true _ c.before.if2.true)
 
 returns-3 : tie.Need-returns-3
 returns-3 c =
     let d = c.before.before.before.before.before in
     let a = d.before.before in
-    step-done _ _ _ _ _ a.before.well-formed.1.1.1.1.0.1.0.1 d.link-step.result (sym a.step-fits.ensures ∙ not-false _ d.before.if1.false)
+    step_done_lem _ _ _ _ _ a.before.well-formed.1.1.1.1.0.1.0.1 d.link-step.result (sym a.step-fits.ensures ∙ not-false _ d.before.if1.false)
     d.link-step.ensures (not-false _ c.if2.false)
 
 pub step_spec : {M : Type 1} → statement M

@@ -47,8 +47,8 @@ returns-4 c =
     rw (lt-ltb _ _ k.before.before.if1.false, kind, sym f.before.fits2.ensures ∙ not-false _ f.if3.false)
     (c.is-fine.ensures ∙ ap is_fine c.before.bottleneck-rate.ensures.0)
 
-pub step_fits_spec : {M : Type 1} → statement M
-step_fits_spec =
+pub step-fits-spec : {M : Type 1} → statement M
+step-fits-spec =
     tie.close
     (tie.spec
     returns

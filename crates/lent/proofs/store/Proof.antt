@@ -50,7 +50,7 @@ use Rattle.links.specs.declared.Entry.{Entry}
 use Rattle.links.specs.Links.{no_entry}
 use Rattle.links.specs.contracts.Entry as T
 use Rattle.links.proofs.Entry.TheLaws as T'
-use Rattle.lent.proofs.Rows.{Upto, Nearer, Nearer-wf, mid, mid-next, mid-length, array-out, array-in}
+use Rattle.lent.proofs.Rows.{Upto, Nearer, Nearer-wf, mid, mid_next, mid_length, array_out, array_in}
 use Rattle.lent.specs.contracts.store.Key.{name as #lent·store}
 use Rattle.lent.specs.contracts.store as f
 use Rattle.lent.proofs.store.Statement as stated
@@ -90,7 +90,7 @@ module _ {M : Type 1} {𝓤 : Ura M} (𝓛 : Logic 𝓤) (at_mem : Memory → SP
   Post = (walk_of 𝓛 f.ended stayed (f.clauses 𝓛 at_mem run)).post (((κ, tt), (q, tt), tt, x, at), tt)
 
   all_length : length (mid es ys 32) ≡ length ys
-  all_length = mid-length es ys 32 (omega (arith, es_length)) enough
+  all_length = mid_length es ys 32 (omega (arith, es_length)) enough
 
   exits : ent 𝓤 (⋆ 𝓛 (‵ (fobs γ ((coded_holeys T.the_row).code (heres T.the_row (mid es ys 32)))) ∷ ‵ (fbor κ (Held T.the_row (length (mid es ys 32)) b o γ)) ∷ ‵ (flft κ q) ∷ [])) (Post vunit)
   exits =
@@ -155,7 +155,7 @@ module _ {M : Type 1} {𝓤 : Ura M} (𝓛 : Logic 𝓤) (at_mem : Memory → SP
         move ! (1 ∷ []) $ elem_out ! T.the_row (Is T.the_row) (shows 𝓛 T.the_row) vals (LL.tells T.the_type T'.the_laws) full_share (mid es ys i.0) i.0 no_entry b o in_mid (λ _.
         assigns ! (of_opd ! (load ! (from ! (stop !)) (look ! 11 refl))) (from ! (hop ! (look ! 7 refl) (stop !))) (store_raw ! 0 refl ((LL.lawful T.the_type T'.the_laws 𝓛).typed it _ g).0) $
         move ! (1 ∷ []) $ away ! $ owned ! T.the_row (Is T.the_row) (LL.makes T.the_type T'.the_plain 𝓛) it _ g $ move ! (1 ∷ 0 ∷ []) $ elem_put ! T.the_row full_share (mid es ys i.0) i.0 it (vals it) b o in_mid $
-        rewrite ! 0 (λ (l : List Entry). ‵ (row T.the_row full_share l b o)) (mid-next es ys i.0 no_entry in_es in_ys) refl $
+        rewrite ! 0 (λ (l : List Entry). ‵ (row T.the_row full_share l b o)) (mid_next es ys i.0 no_entry in_es in_ys) refl $
         assigns_last ! (bin ! (load ! (from ! (stop !)) (look ! 19 refl)) (lit ! tt) (record { fits = next_fits })) (from ! (stop !)) (store ! 19 refl (tt, record { fits = next_fits })) $
         forget ! 5 refl $ forget ! 7 refl $ forget ! 9 refl $ forget ! 11 refl $ forget ! 13 refl $ forget ! 15 refl $ forget ! 17 refl $ again ! (Nearer 32) At i (i.0 + 1, add-one-le less) (add-one-dec 32 i.0 less)))
       where
@@ -172,7 +172,7 @@ module _ {M : Type 1} {𝓤 : Ura M} (𝓛 : Logic 𝓤) (at_mem : Memory → SP
         in_ys = omega (arith, less, enough)
 
         in_mid : i.0 < length (mid es ys i.0)
-        in_mid = subst (λ (n : ℕ). i.0 < n) (sym (mid-length es ys i.0 (omega (arith, in_es)) (omega (arith, in_ys)))) in_ys
+        in_mid = subst (λ (n : ℕ). i.0 < n) (sym (mid_length es ys i.0 (omega (arith, in_es)) (omega (arith, in_ys)))) in_ys
 
         at_fits : i.0 * 24 < 2 ^ 64
         at_fits = omega (arith, less)
@@ -184,7 +184,7 @@ module _ {M : Type 1} {𝓤 : Ura M} (𝓛 : Logic 𝓤) (at_mem : Memory → SP
         rewrite ! 17 (λ (t : Bool). ‵ (fat full_share ty_bool l₅ 0 (vbool t))) e refl $ leaves_loop ! (load ! (from ! (stop !)) (look ! 17 refl)) $ exec ! C Λ En code-mir.t-4 (at_ret En Post) $
         assigns ! (of_opd ! (unit_lit !)) (from ! (stop !)) (init ! 26 refl (tt, tt)) $
         -- the array is one cell again
-        move ! (1 ∷ []) $ use1 𝓛 (given (Is (Array T.the_row 32) es (array_vals vals es)) (‵ (cell_at full_share (Array T.the_row 32).mir (array_vals vals es) l₃ 0))) (array-in 𝓛 T.the_row tt 32 vals (LL.tells T.the_type T'.the_laws) es l₃ 0 es_length) $ learn ! (λ _.
+        move ! (1 ∷ []) $ use1 𝓛 (given (Is (Array T.the_row 32) es (array_vals vals es)) (‵ (cell_at full_share (Array T.the_row 32).mir (array_vals vals es) l₃ 0))) (array_in 𝓛 T.the_row tt 32 vals (LL.tells T.the_type T'.the_laws) es l₃ 0 es_length) $ learn ! (λ _.
         use1 𝓛 (‵ (fat full_share arr l₃ 0 (only (array_vals vals es)))) (𝓛.laws.raw_at full_share arr l₃ 0 (only (array_vals vals es))) $
         -- and the borrow is closed
         move ! (1 ∷ 2 ∷ 3 ∷ 4 ∷ []) $ rewrite ! 0 (λ (n : ℕ). ‵ (row T.the_row full_share (mid es ys n) b o)) all refl $ closes_slice ! tt T.the_row ys (mid es ys 32) all_length b o $
@@ -205,7 +205,7 @@ module _ {M : Type 1} {𝓤 : Ura M} (𝓛 : Logic 𝓤) (at_mem : Memory → SP
       assigns ! (of_opd ! (load ! (from ! (stop !)) (look ! 18 refl))) (from ! (stop !)) (init ! 16 refl es_typed) $
       assigns ! (of_opd ! (lit ! tt)) (from ! (stop !)) (init ! 14 refl (tt, record { fits = lit< tt })) $
       -- the local array is taken for its elements
-      move ! (16 ∷ []) $ use1 𝓛 (‵ (row T.the_row full_share es l₃ 0)) (array-out 𝓛 T.the_row tt 32 (LL.makes T.the_type T'.the_plain 𝓛) es (only (array_vals vals es)) l₃ 0 es-is) $ forget ! 18 refl $
+      move ! (16 ∷ []) $ use1 𝓛 (‵ (row T.the_row full_share es l₃ 0)) (array_out 𝓛 T.the_row tt 32 (LL.makes T.the_type T'.the_plain 𝓛) es (only (array_vals vals es)) l₃ 0 es-is) $ forget ! 18 refl $
       -- and the borrow is opened
       move ! (25 ∷ []) $ fsplit ! $ fsplit ! $ move ! (1 ∷ []) $ fsplit ! $ move ! (28 ∷ []) $ split ! $ move ! (2 ∷ 3 ∷ 0 ∷ []) $ opens_slice ! tt T.the_row ys b o $
       -- [entries's row; the open borrow; obs; auth; true; entries's fact; a's; a's row; _11; …; what frees _3; _2; …; _1; …; room for _0; …]

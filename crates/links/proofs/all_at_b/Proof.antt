@@ -10,5 +10,5 @@ those-requires c κs = search rules
 returns : tie.Need-returns
 returns c = rw c.those.ensures
 
-pub all_at_b_spec : {M : Type 1} → statement M
-all_at_b_spec = tie.close (tie.spec those-requires returns)
+pub all-at-b-spec : {M : Type 1} → statement M
+all-at-b-spec = tie.close (tie.spec those-requires returns)

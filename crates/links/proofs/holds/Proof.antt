@@ -16,5 +16,5 @@ returns c = rw (← c.before.has.ensures, c.if1.true)
 returns-2 : tie.Need-returns-2
 returns-2 c = rw (← c.before.before.has.ensures, c.before.if1.false) c.has2.ensures
 
-pub holds_spec : {M : Type 1} → statement M
-holds_spec = tie.close (tie.spec has-requires has-requires-2 returns returns-2)
+pub holds-spec : {M : Type 1} → statement M
+holds-spec = tie.close (tie.spec has-requires has-requires-2 returns returns-2)

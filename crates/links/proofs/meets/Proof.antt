@@ -65,8 +65,8 @@ returns-6 c = rw (c.before.before.before.before.asked5.given.1, ← c.before.bef
 returns-7 : tie.Need-returns-7
 returns-7 c = rw (c.before.before.before.asked5.given.1, ← c.before.is-idle2.ensures, c.if2.false)
 
-pub meets_spec : {M : Type 1} → statement M
-meets_spec =
+pub meets-spec : {M : Type 1} → statement M
+meets-spec =
     tie.close
     (tie.spec
     enum-known-asked

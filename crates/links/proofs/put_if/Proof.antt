@@ -13,5 +13,5 @@ returns c = rw c.before.if1.true c.put.ensures
 returns-2 : tie.Need-returns-2
 returns-2 c = rw c.if1.false
 
-pub put_if_spec : {M : Type 1} → statement M
-put_if_spec = tie.close (tie.spec put-requires returns returns-2)
+pub put-if-spec : {M : Type 1} → statement M
+put-if-spec = tie.close (tie.spec put-requires returns returns-2)

@@ -5,7 +5,7 @@ use mathlib.Core.Path.{◌≡◌, ap, refl, sym, ◌∙◌}
 use native.Mathlib.Omega.{arith}
 use Prim.Native.Nat.{◌^◌, ◌<◌}
 use Rattle.sessions.specs.Set.{members, put, walk}
-use Rattle.sessions.proofs.Walks.{next-below, next-less, walk_end, walk_turn}
+use Rattle.sessions.proofs.Walks.{next_below, next_less, walk_end, walk_turn}
 use Rattle.links.specs.Links.{add_if, those_of}
 use borrow.Author.Rules.{rules}
 use Rattle.links.proofs.those.Statement.{statement}
@@ -18,11 +18,11 @@ abbrev decreases-loop : tie.decreases-loop
 decreases-loop asked w p found₀ left₀ found left = left
 
 below : (c : tie.After-next invariant-loop decreases-loop) → c.next.result < 32
-below c = next-below 32 c.before.before.loop.left c.next.result (omega arith) c.before.before.loop.invariant.0 c.next.ensures
+below c = next_below 32 c.before.before.loop.left c.next.result (omega arith) c.before.before.loop.invariant.0 c.next.ensures
 
 less : (c : tie.After-cut invariant-loop decreases-loop) → c.cut.result < c.before.before.before.before.before.before.loop.left
 less c =
-    next-less 32 c.before.before.before.before.before.before.loop.left c.before.before.before.before.next.result (omega arith) c.before.before.before.before.before.before.loop.invariant.0 c.before.before.before.before.next.ensures c.cut.result
+    next_less 32 c.before.before.before.before.before.before.loop.left c.before.before.before.before.next.result (omega arith) c.before.before.before.before.before.before.loop.invariant.0 c.before.before.before.before.next.ensures c.cut.result
     c.cut.ensures
 
 loop-holds : tie.Need-loop-init invariant-loop decreases-loop
@@ -64,8 +64,8 @@ loop-again c = (
 returns : tie.Need-returns invariant-loop decreases-loop
 returns c = sym (walk_end _ 32 c.before.loop.found c.before.loop.left c.loop-test.false) ∙ c.before.loop.invariant.1
 
-pub those_spec : {M : Type 1} → statement M
-those_spec =
+pub those-spec : {M : Type 1} → statement M
+those-spec =
     tie.close
     (tie.spec
     invariant-loop

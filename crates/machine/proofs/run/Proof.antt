@@ -1,7 +1,7 @@
 -- `machine::run` meets its contract: 14, then 1, then the records.
 -- Assumes nothing.
 use Rattle.fractions.proofs.Cases.{not-false, not_true}
-use Rattle.machine.proofs.Answers.{handed-away, run_says, runs, too_long}
+use Rattle.machine.proofs.Answers.{handed_away, run_says, runs, too_long}
 use borrow.Author.Rules.{rules}
 use Rattle.machine.proofs.run.Statement.{statement}
 use Rattle.machine.proofs.run.Tie as tie
@@ -13,7 +13,7 @@ turned-away-requires : tie.Need-turned-away-requires
 turned-away-requires c κs = search rules
 
 returns : tie.Need-returns
-returns c = let e = handed-away _ c.before.before.before.before.before.args.s.now c.before.before.passes-14.result c.before.before.passes-14.ensures (not_true _ c.before.if1.true) c.turned-away.result c.turned-away.ensures in (e, run_says _ _ _ e)
+returns c = let e = handed_away _ c.before.before.before.before.before.args.s.now c.before.before.passes-14.result c.before.before.passes-14.ensures (not_true _ c.before.if1.true) c.turned-away.result c.turned-away.ensures in (e, run_says _ _ _ e)
 
 turned-away-requires-2 : tie.Need-turned-away-requires-2
 turned-away-requires-2 c κs = search rules

@@ -9,7 +9,7 @@ use Rattle.records.specs.declared.Call.TheVariants as call
 use Rattle.records.specs.Format.{size_at}
 use Rattle.records.proofs.Runs.{run_end}
 use Rattle.machine.specs.Machine.{acting, judging, run_records_of}
-use Rattle.machine.proofs.Turns.{going, turn-ends, turn-refused, turn-taken}
+use Rattle.machine.proofs.Turns.{going, turn_ends, turn_refused, turn_taken}
 use borrow.Author.Rules.{rules}
 use Rattle.machine.proofs.run_records.Statement.{statement}
 use Rattle.machine.proofs.run_records.Tie as tie
@@ -25,7 +25,7 @@ ends : (c : tie.After-size-at invariant-loop decreases-loop) → (0 < c.size-at.
 ends c = (
   c.size-at.ensures.1,
   rw c.size-at.ensures.0
-      (turn-ends c.before.before.before.before.before.before.before.before.args.s.now c.before.before.before.before.before.before.loop.t c.before.before.before.step.new.0 c.before.before.before.before.before.before.loop.n c.before.before.before.before.before.before.loop.at c.before.before.before.step.result c.before.before.before.before.before.before.loop.invariant.0 c.before.before.before.before.before.loop-test.true c.before.before.before.step.ensures c.before.enum_told.given.1),
+      (turn_ends c.before.before.before.before.before.before.before.before.args.s.now c.before.before.before.before.before.before.loop.t c.before.before.before.step.new.0 c.before.before.before.before.before.before.loop.n c.before.before.before.before.before.before.loop.at c.before.before.before.step.result c.before.before.before.before.before.before.loop.invariant.0 c.before.before.before.before.before.loop-test.true c.before.before.before.step.ensures c.before.enum_told.given.1),
 )
 
 loop-holds : tie.Need-loop-init invariant-loop decreases-loop
@@ -54,20 +54,20 @@ loop-again : tie.Need-loop-preserved invariant-loop decreases-loop
 loop-again c = (
   omega (arith, ends c),
   omega (arith, ends c),
-  rw c.size-at.ensures.0 (sym (turn-taken c.before.before.before.before.before.before.before.before.args.s.now c.before.before.before.before.before.before.loop.t c.before.before.before.step.new.0 c.before.before.before.before.before.before.loop.n c.before.before.before.before.before.before.loop.at c.before.before.before.step.result c.before.before.before.before.before.before.loop.invariant.0 c.before.before.before.before.before.loop-test.true c.before.before.before.step.ensures c.before.enum_told.given.1) ∙ c.before.before.before.before.before.before.loop.invariant.2),
+  rw c.size-at.ensures.0 (sym (turn_taken c.before.before.before.before.before.before.before.before.args.s.now c.before.before.before.before.before.before.loop.t c.before.before.before.step.new.0 c.before.before.before.before.before.before.loop.n c.before.before.before.before.before.before.loop.at c.before.before.before.step.result c.before.before.before.before.before.before.loop.invariant.0 c.before.before.before.before.before.loop-test.true c.before.before.before.step.ensures c.before.enum_told.given.1) ∙ c.before.before.before.before.before.before.loop.invariant.2),
 )
 
 enum-known-v : tie.Need-enum-known-v invariant-loop decreases-loop
 enum-known-v c = search rules
 
 returns : tie.Need-returns invariant-loop decreases-loop
-returns c = sym (turn-refused c.before.before.before.before.before.before.before.before.args.s.now c.before.before.before.before.before.before.loop.t c.before.before.before.step.new.0 c.before.before.before.before.before.before.loop.n c.before.before.before.before.before.before.loop.at c.before.before.before.step.result c.before.before.before.before.before.before.loop.invariant.0 c.before.before.before.before.before.loop-test.true c.before.before.before.step.ensures _ c.before.v.given.1) ∙ c.before.before.before.before.before.before.loop.invariant.2
+returns c = sym (turn_refused c.before.before.before.before.before.before.before.before.args.s.now c.before.before.before.before.before.before.loop.t c.before.before.before.step.new.0 c.before.before.before.before.before.before.loop.n c.before.before.before.before.before.before.loop.at c.before.before.before.step.result c.before.before.before.before.before.before.loop.invariant.0 c.before.before.before.before.before.loop-test.true c.before.before.before.step.ensures _ c.before.v.given.1) ∙ c.before.before.before.before.before.before.loop.invariant.2
 
 returns-2 : tie.Need-returns-2 invariant-loop decreases-loop
 returns-2 c = sym (run_end call.Machine (judging c.before.before.before.args.s.now) (acting c.before.before.before.args.s.now) c.before.before.before.args.s.now (length c.before.before.before.args.s.now - c.before.loop.n) c.before.loop.t c.before.loop.n c.before.loop.at c.loop-test.false) ∙ c.before.loop.invariant.2
 
-pub run_records_spec : {M : Type 1} → statement M
-run_records_spec =
+pub run-records-spec : {M : Type 1} → statement M
+run-records-spec =
     tie.close
     (tie.spec
     invariant-loop

@@ -41,8 +41,8 @@ returns c = search rules
 returns-2 : tie.Need-returns-2
 returns-2 c = search rules
 
-pub print_records_spec : {M : Type 1} → statement M
-print_records_spec =
+pub print-records-spec : {M : Type 1} → statement M
+print-records-spec =
     tie.close
     (tie.spec
     slice-aggregate-write-records

@@ -52,5 +52,5 @@ returns c =
     let z = c.before.loop in
     z.invariant.0 ∙ ap (λ (k : ℕ). word_of k (λ s. (source_of c.before.before.args.t.now s).active)) {x = z.s} {y = 32} (omega (arith, c.loop-test.false, z.invariant.1))
 
-pub active_spec : {M : Type 1} → statement M
-active_spec = tie.close (tie.spec invariant-loop decreases-loop loop-holds source-at-requires cast-put-active put-active-requires add-s loop-less loop-again returns)
+pub active-spec : {M : Type 1} → statement M
+active-spec = tie.close (tie.spec invariant-loop decreases-loop loop-holds source-at-requires cast-put-active put-active-requires add-s loop-less loop-again returns)

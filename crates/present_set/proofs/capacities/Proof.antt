@@ -5,7 +5,7 @@ use Prim.Native.Nat.{◌-◌}
 use native.Mathlib.Omega.{arith}
 use Rattle.links.specs.declared.Link.{Link}
 use Rattle.table.specs.Words.{link_of}
-use Rattle.present_set.proofs.Collected.{Filled, filled-all, filled_next, filled_none}
+use Rattle.present_set.proofs.Collected.{Filled, filled_all, filled_next, filled_none}
 use Rattle.present_set.proofs.capacities.Statement.{statement}
 use Rattle.present_set.proofs.capacities.Tie as tie
 
@@ -41,7 +41,7 @@ loop-again c =
 returns : tie.Need-returns invariant-loop decreases-loop
 returns c =
     let z = c.before.loop in
-    filled-all 64 (λ e. (link_of c.before.before.args.t.now e).capacity) z.e z.all c.loop-test.false z.invariant
+    filled_all 64 (λ e. (link_of c.before.before.args.t.now e).capacity) z.e z.all c.loop-test.false z.invariant
 
-pub capacities_spec : {M : Type 1} → statement M
-capacities_spec = tie.close (tie.spec invariant-loop decreases-loop loop-holds link-at-requires mul-all array-write-all add-e loop-less loop-again returns)
+pub capacities-spec : {M : Type 1} → statement M
+capacities-spec = tie.close (tie.spec invariant-loop decreases-loop loop-holds link-at-requires mul-all array-write-all add-e loop-less loop-again returns)

@@ -53,5 +53,5 @@ returns c =
     let z = c.before.loop in
     z.invariant.0 ∙ ap (λ (k : ℕ). word_of k (λ e. ltb 0 (link_of c.before.before.args.t.now e).capacity)) {x = z.e} {y = 64} (omega (arith, c.loop-test.false, z.invariant.1))
 
-pub links_spec : {M : Type 1} → statement M
-links_spec = tie.close (tie.spec invariant-loop decreases-loop loop-holds link-at-requires cast-put-declared put-declared-requires add-e loop-less loop-again returns)
+pub links-spec : {M : Type 1} → statement M
+links-spec = tie.close (tie.spec invariant-loop decreases-loop loop-holds link-at-requires cast-put-declared put-declared-requires add-e loop-less loop-again returns)

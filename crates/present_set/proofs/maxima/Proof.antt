@@ -5,7 +5,7 @@ use Prim.Native.Nat.{◌-◌}
 use native.Mathlib.Omega.{arith}
 use Rattle.ends.specs.declared.Source.{Source}
 use Rattle.table.specs.Words.{source_of}
-use Rattle.present_set.proofs.Collected.{Filled, filled-all, filled_next, filled_none}
+use Rattle.present_set.proofs.Collected.{Filled, filled_all, filled_next, filled_none}
 use Rattle.present_set.proofs.maxima.Statement.{statement}
 use Rattle.present_set.proofs.maxima.Tie as tie
 
@@ -41,7 +41,7 @@ loop-again c =
 returns : tie.Need-returns invariant-loop decreases-loop
 returns c =
     let z = c.before.loop in
-    filled-all 32 (λ s. (source_of c.before.before.args.t.now s).maximum) z.s z.all c.loop-test.false z.invariant
+    filled_all 32 (λ s. (source_of c.before.before.args.t.now s).maximum) z.s z.all c.loop-test.false z.invariant
 
-pub maxima_spec : {M : Type 1} → statement M
-maxima_spec = tie.close (tie.spec invariant-loop decreases-loop loop-holds source-at-requires mul-all array-write-all add-s loop-less loop-again returns)
+pub maxima-spec : {M : Type 1} → statement M
+maxima-spec = tie.close (tie.spec invariant-loop decreases-loop loop-holds source-at-requires mul-all array-write-all add-s loop-less loop-again returns)

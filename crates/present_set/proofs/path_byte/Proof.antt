@@ -33,5 +33,5 @@ returns-2 c =
     let a = c.before.before.args in
     rw (le-ltb a.h (hops_of a.t.now a.s) (omega (arith, c.if1.false, c.before.hops-at.ensures))) refl
 
-pub path_byte_spec : {M : Type 1} → statement M
-path_byte_spec = tie.close (tie.spec hops-at-requires stop-at-requires cast-result returns returns-2)
+pub path-byte-spec : {M : Type 1} → statement M
+path-byte-spec = tie.close (tie.spec hops-at-requires stop-at-requires cast-result returns returns-2)

@@ -3,7 +3,7 @@
 use Prim.Native.Nat.{◌-◌, ◌/◌, ◌%◌}
 use native.Mathlib.Omega.{arith}
 use Rattle.present_set.specs.Held.{path_byte}
-use Rattle.present_set.proofs.Collected.{Filled, filled-all, filled_next, filled_none}
+use Rattle.present_set.proofs.Collected.{Filled, filled_all, filled_next, filled_none}
 use Rattle.present_set.proofs.paths.Statement.{statement}
 use Rattle.present_set.proofs.paths.Tie as tie
 
@@ -36,7 +36,7 @@ loop-again c =
 returns : tie.Need-returns invariant-loop decreases-loop
 returns c =
     let z = c.before.loop in
-    filled-all 256 (λ i. path_byte c.before.before.args.t.now (i / 8) (i % 8)) z.i z.all c.loop-test.false z.invariant
+    filled_all 256 (λ i. path_byte c.before.before.args.t.now (i / 8) (i % 8)) z.i z.all c.loop-test.false z.invariant
 
-pub paths_spec : {M : Type 1} → statement M
-paths_spec = tie.close (tie.spec invariant-loop decreases-loop loop-holds path-byte-requires array-write-all add-i loop-less loop-again returns)
+pub paths-spec : {M : Type 1} → statement M
+paths-spec = tie.close (tie.spec invariant-loop decreases-loop loop-holds path-byte-requires array-write-all add-i loop-less loop-again returns)

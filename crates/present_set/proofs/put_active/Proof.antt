@@ -14,5 +14,5 @@ returns c = rw c.before.if1.true c.put.ensures
 returns-2 : tie.Need-returns-2
 returns-2 c = rw c.if1.false refl
 
-pub put_active_spec : {M : Type 1} → statement M
-put_active_spec = tie.close (tie.spec put-requires returns returns-2)
+pub put-active-spec : {M : Type 1} → statement M
+put-active-spec = tie.close (tie.spec put-requires returns returns-2)

@@ -15,5 +15,5 @@ returns c = rw (lt-ltb 0 c.before.before.args.capacity c.before.if1.true) c.put-
 returns-2 : tie.Need-returns-2
 returns-2 c = rw (le-ltb 0 c.before.args.capacity c.if1.false) refl
 
-pub put_declared_spec : {M : Type 1} → statement M
-put_declared_spec = tie.close (tie.spec put-link-requires returns returns-2)
+pub put-declared-spec : {M : Type 1} → statement M
+put-declared-spec = tie.close (tie.spec put-link-requires returns returns-2)

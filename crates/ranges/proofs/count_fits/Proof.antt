@@ -12,5 +12,5 @@ returns : tie.Need-returns
 unfolding count_fits
 returns c = search rules
 
-pub count_fits_spec : {M : Type 1} → statement M
-count_fits_spec = tie.close (tie.spec element-copy-out-result returns)
+pub count-fits-spec : {M : Type 1} → statement M
+count-fits-spec = tie.close (tie.spec element-copy-out-result returns)

@@ -80,8 +80,8 @@ returns-2 : tie.Need-returns-2
 unfolding entry_fits
 returns-2 c = rw (le-leb _ _ c.before.before.before.before.before.if1.left) c.is-rate-beside.ensures
 
-pub entry_fits_spec : {M : Type 1} → statement M
-entry_fits_spec =
+pub entry-fits-spec : {M : Type 1} → statement M
+entry-fits-spec =
     tie.close
     (tie.spec
     mul-a

@@ -41,8 +41,8 @@ returns-5 : tie.Need-returns-5
 unfolding flags_fit
 returns-5 c = rw (le-leb _ _ c.before.before.before.if1.left, le-leb _ _ c.before.before.if2.left, le-leb _ _ c.before.if3.left, le-leb _ _ c.if4.left)
 
-pub flags_fit_spec : {M : Type 1} → statement M
-flags_fit_spec =
+pub flags-fit-spec : {M : Type 1} → statement M
+flags-fit-spec =
     tie.close
     (tie.spec
     array-read-if1

@@ -10,5 +10,5 @@ returns c = simp (eq-eqb _ _ c.before.if1.taken)
 returns-2 : tie.Need-returns-2
 returns-2 c = simp (ne_eqb _ _ c.if1.left)
 
-pub is_pair_spec : {M : Type 1} → statement M
-is_pair_spec = tie.close (tie.spec returns returns-2)
+pub is-pair-spec : {M : Type 1} → statement M
+is-pair-spec = tie.close (tie.spec returns returns-2)

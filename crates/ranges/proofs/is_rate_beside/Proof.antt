@@ -25,5 +25,5 @@ is-rate-requires c κs = search rules
 returns-2 : tie.Need-returns-2
 returns-2 c = search rules
 
-pub is_rate_beside_spec : {M : Type 1} → statement M
-is_rate_beside_spec = tie.close (tie.spec is-pair-requires returns is-rate-requires returns-2)
+pub is-rate-beside-spec : {M : Type 1} → statement M
+is-rate-beside-spec = tie.close (tie.spec is-pair-requires returns is-rate-requires returns-2)

@@ -48,8 +48,8 @@ returns-6 : tie.Need-returns-6
 unfolding kind_fits
 returns-6 c = rw (ne_eqb _ _ c.match.rest.1, ne_eqb _ _ c.match.rest.0.1, ne_eqb _ _ c.match.rest.0.0.1, ne_eqb _ _ c.match.rest.0.0.0.1)
 
-pub kind_fits_spec : {M : Type 1} → statement M
-kind_fits_spec =
+pub kind-fits-spec : {M : Type 1} → statement M
+kind-fits-spec =
     tie.close
     (tie.spec
     array-read-code

@@ -45,8 +45,8 @@ returns-3 : tie.Need-returns-3
 unfolding link_fits
 returns-3 c = rw (le-leb _ _ c.before.before.before.if1.left, le-leb _ _ c.before.if2.left)
 
-pub link_fits_spec : {M : Type 1} → statement M
-link_fits_spec =
+pub link-fits-spec : {M : Type 1} → statement M
+link-fits-spec =
     tie.close
     (tie.spec
     mul-a

@@ -54,8 +54,8 @@ returns-5 c =
     let e = sym c.before.above-line.ensures ∙ c.if4.left in
     rw (lt-ltb 0 (get_or c.before.before.before.before.before.args.t1 1 0) (omega arith), le-leb _ _ c.before.before.before.if2.left, le-leb _ _ c.before.before.if3.left, e)
 
-pub numbers_fit_spec : {M : Type 1} → statement M
-numbers_fit_spec =
+pub numbers-fit-spec : {M : Type 1} → statement M
+numbers-fit-spec =
     tie.close
     (tie.spec
     array-read-if1

@@ -22,6 +22,6 @@ returns : tie.Need-returns
 unfolding packet_fits
 returns c = c.words-fit.ensures ∙ ap words_fit c.before.block_at.ensures
 
-pub packet_fits_spec : {M : Type 1} → statement M
-packet_fits_spec =
+pub packet-fits-spec : {M : Type 1} → statement M
+packet-fits-spec =
     tie.close (tie.spec mul-block-at add-block-at block-at-requires words-fit-requires returns)

@@ -32,7 +32,7 @@ returns-2 : tie.Need-returns-2
 unfolding path_fits
 returns-2 c = rw (le-leb _ _ c.before.if1.left) c.stops-fit.ensures
 
-pub path_fits_spec : {M : Type 1} → statement M
-path_fits_spec =
+pub path-fits-spec : {M : Type 1} → statement M
+path-fits-spec =
     tie.close
     (tie.spec mul-n add-n add-n-2 mul-n-2 element-copy-out-n returns stops-fit-requires returns-2)

@@ -27,8 +27,8 @@ returns-2 : tie.Need-returns-2
 unfolding rated_fits
 returns-2 c = let e = sym c.before.is-rate.ensures ∙ not-false _ c.if1.left in simp e
 
-pub rated_fits_spec : {M : Type 1} → statement M
-rated_fits_spec =
+pub rated-fits-spec : {M : Type 1} → statement M
+rated-fits-spec =
     tie.close
     (tie.spec
     array-read-result

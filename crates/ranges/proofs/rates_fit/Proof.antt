@@ -42,8 +42,8 @@ returns-3 c =
     let e = sym c.before.before.is-rate.ensures ∙ not-false _ c.before.if1.left in
     simp (e, ne_eqb _ _ c.if2.left)
 
-pub rates_fit_spec : {M : Type 1} → statement M
-rates_fit_spec =
+pub rates-fit-spec : {M : Type 1} → statement M
+rates-fit-spec =
     tie.close
     (tie.spec
     array-read-t7

@@ -72,8 +72,8 @@ returns-4 c =
     let f = sym c.before.before.rates-fit.ensures ∙ not-false _ c.before.if3.left in
     rw (← c.before.before.before.before.before.before.before.before.before.block_at.ensures, ← c.before.before.before.before.block-at2.ensures, d, e, f) c.path-fits.ensures
 
-pub source_fits_spec : {M : Type 1} → statement M
-source_fits_spec =
+pub source-fits-spec : {M : Type 1} → statement M
+source-fits-spec =
     tie.close
     (tie.spec
     mul-a

@@ -35,8 +35,8 @@ returns-2 : tie.Need-returns-2
 unfolding standing_fits
 returns-2 c = rw (le-leb _ _ c.before.if1.left)
 
-pub standing_fits_spec : {M : Type 1} → statement M
-standing_fits_spec =
+pub standing-fits-spec : {M : Type 1} → statement M
+standing-fits-spec =
     tie.close
     (tie.spec
     mul-a

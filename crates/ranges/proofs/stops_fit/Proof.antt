@@ -64,8 +64,8 @@ returns-2 c =
     let a = c.before.before.args in
     sym (stops_end a.t.now a.s a.n l.i c.loop-test.false) ∙ l.invariant.1
 
-pub stops_fit_spec : {M : Type 1} → statement M
-stops_fit_spec =
+pub stops-fit-spec : {M : Type 1} → statement M
+stops-fit-spec =
     tie.close
     (tie.spec
     invariant-loop

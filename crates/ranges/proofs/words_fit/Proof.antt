@@ -34,8 +34,8 @@ returns-4 : tie.Need-returns-4
 unfolding words_fit
 returns-4 c = rw (le-leb _ _ c.before.before.before.if1.left, le-leb _ _ c.before.before.if2.left, le-leb _ _ c.before.if3.left) c.kind-fits.ensures
 
-pub words_fit_spec : {M : Type 1} → statement M
-words_fit_spec =
+pub words-fit-spec : {M : Type 1} → statement M
+words-fit-spec =
     tie.close
     (tie.spec
     array-read-if1

@@ -107,8 +107,8 @@ returns-16 c = rw c.enum-told16.given.1 refl
 returns-17 : tie.Need-returns-17
 returns-17 c = rw c.enum-told17.given.1 refl
 
-pub number_spec : {M : Type 1} → statement M
-number_spec =
+pub number-spec : {M : Type 1} → statement M
+number-spec =
     tie.close
     (tie.spec
     enum_told

@@ -16,5 +16,5 @@ returns c = (rw c.enum_told.given.1, rw c.enum_told.given.1)
 returns-2 : tie.Need-returns-2
 returns-2 c = (rw c.before.v.given.1, rw c.before.v.given.1)
 
-pub weigh_spec : {M : Type 1} → statement M
-weigh_spec = tie.close (tie.spec enum_told enum-known-v returns returns-2)
+pub weigh-spec : {M : Type 1} → statement M
+weigh-spec = tie.close (tie.spec enum_told enum-known-v returns returns-2)

@@ -24,5 +24,5 @@ returns c =
     let a = c.before.before.args in
     c.cut.ensures ∙ ap (λ (v : ℕ). cut a.s (bit_and a.left ((2 ^ 32 - 1) - (v - 1)))) c.before.only.ensures
 
-pub after_spec : {M : Type 1} → statement M
-after_spec = tie.close (tie.spec only-requires sub-before cut-requires returns)
+pub after-spec : {M : Type 1} → statement M
+after-spec = tie.close (tie.spec only-requires sub-before cut-requires returns)

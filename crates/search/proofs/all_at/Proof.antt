@@ -59,8 +59,8 @@ returns-3 c =
     let z = c.before.loop in
     found_all a.path.now a.opens a.links z.found z.left (omega arith) z.invariant
 
-pub all_at_spec : {M : Type 1} → statement M
-all_at_spec =
+pub all-at-spec : {M : Type 1} → statement M
+all-at-spec =
     tie.close
     (tie.spec
     invariant-loop

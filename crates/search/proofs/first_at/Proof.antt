@@ -7,7 +7,7 @@ use borrow.Author.Rules.{rules}
 use borrow.Author.Tests.{eqb-true}
 use Rattle.sessions.specs.Set.{cut, has}
 use Rattle.sessions.proofs.Members.{has_cut_le}
-use Rattle.sessions.proofs.Walks.{next-below, next-less}
+use Rattle.sessions.proofs.Walks.{next_below, next_less}
 use Rattle.search.proofs.Turns.{NoneOf, Tried, first_hit, first_none, none_of_more, tried_more}
 use Rattle.search.proofs.first_at.Statement.{statement}
 use Rattle.search.proofs.first_at.Tie as tie
@@ -30,13 +30,13 @@ decreases-search path left links found₀ rest₀ found rest = rest
 
 -- the next session, and that less is left without it
 small : (c : tie.After-next invariant-loop decreases-loop invariant-search decreases-search) → c.next.result < 32
-small c = let z = c.before.before.search in next-below 32 z.rest c.next.result (omega arith) z.invariant.0 c.next.ensures
+small c = let z = c.before.before.search in next_below 32 z.rest c.next.result (omega arith) z.invariant.0 c.next.ensures
 
 less : (c : tie.After-cut invariant-loop decreases-loop invariant-search decreases-search) → c.cut.result < c.before.before.before.before.before.search.rest
 less c =
     let z = c.before.before.before.before.before.search in
     let n = c.before.before.before.next in
-    next-less 32 z.rest n.result (omega arith) z.invariant.0 n.ensures c.cut.result c.cut.ensures
+    next_less 32 z.rest n.result (omega arith) z.invariant.0 n.ensures c.cut.result c.cut.ensures
 
 search-holds : tie.Need-search-init invariant-loop decreases-loop invariant-search decreases-search
 search-holds c = (omega arith, refl, λ s h. omega arith, λ s h p q. absurd (omega arith))
@@ -110,8 +110,8 @@ returns-2 c =
     first_hit a.path.now a.links a.left z.rest n.result h (omega arith) z.invariant.0 n.ensures z.invariant.2
     c.before.before.before.loop-test.true hit z.invariant.3
 
-pub first_at_spec : {M : Type 1} → statement M
-first_at_spec =
+pub first-at-spec : {M : Type 1} → statement M
+first-at-spec =
     tie.close
     (tie.spec
     invariant-loop

@@ -17,5 +17,5 @@ put-requires c κs = search rules
 returns-2 : tie.Need-returns-2
 returns-2 c = rw (← c.before.before.hop-of.ensures, ne_eqb _ _ c.before.if1.false) c.put.ensures
 
-pub add_on_path_spec : {M : Type 1} → statement M
-add_on_path_spec = tie.close (tie.spec hop-of-requires returns put-requires returns-2)
+pub add-on-path-spec : {M : Type 1} → statement M
+add-on-path-spec = tie.close (tie.spec hop-of-requires returns put-requires returns-2)

@@ -54,8 +54,8 @@ returns-2 c = let a = c.before.before.before.args in
     let e : c.before.loop.j ≡ a.i = omega arith in
     sym (ap (λ (n : ℕ). all n (λ j. not (same_lane (packet_of a.t.now j) (packet_of a.t.now a.i)))) (sym e) ∙ c.before.loop.invariant.2)
 
-pub in_turn_spec : {M : Type 1} → statement M
-in_turn_spec =
+pub in-turn-spec : {M : Type 1} → statement M
+in-turn-spec =
     tie.close
     (tie.spec
     invariant-loop

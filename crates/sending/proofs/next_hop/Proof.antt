@@ -20,5 +20,5 @@ sub-result c = search rules
 returns-3 : tie.Need-returns-3
 returns-3 c = rw c.before.if1.false
 
-pub next_hop_spec : {M : Type 1} → statement M
-next_hop_spec = tie.close (tie.spec add-result returns returns-2 sub-result returns-3)
+pub next-hop-spec : {M : Type 1} → statement M
+next-hop-spec = tie.close (tie.spec add-result returns returns-2 sub-result returns-3)

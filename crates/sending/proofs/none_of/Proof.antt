@@ -49,8 +49,8 @@ returns-2 c = let a = c.before.before.args in
     let e : c.before.loop.i ≡ a.n = omega arith in
     sym (ap (λ (i : ℕ). none_of a.t.now a.s i) (sym e) ∙ c.before.loop.invariant.1)
 
-pub none_of_spec : {M : Type 1} → statement M
-none_of_spec =
+pub none-of-spec : {M : Type 1} → statement M
+none-of-spec =
     tie.close
     (tie.spec
     invariant-loop

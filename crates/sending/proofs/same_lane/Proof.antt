@@ -17,5 +17,5 @@ same-way-requires c κs = search rules
 returns-3 : tie.Need-returns-3
 returns-3 c = simp (eq-eqb _ _ c.before.before.before.before.if1.false, eq-eqb _ _ c.before.if2.false, c.same_way.ensures)
 
-pub same_lane_spec : {M : Type 1} → statement M
-same_lane_spec = tie.close (tie.spec returns returns-2 same-way-requires returns-3)
+pub same-lane-spec : {M : Type 1} → statement M
+same-lane-spec = tie.close (tie.spec returns returns-2 same-way-requires returns-3)

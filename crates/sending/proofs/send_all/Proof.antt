@@ -4,7 +4,7 @@ use mathlib.Core.Path.{◌≡◌, refl, sym, ap, subst, ◌∙◌}
 use native.Mathlib.Omega.{arith}
 use Prim.Native.Nat.{◌^◌, ◌<◌}
 use Rattle.sessions.specs.Set.{members, walk}
-use Rattle.sessions.proofs.Walks.{next-below, next-less, walk_end, walk_turn}
+use Rattle.sessions.proofs.Walks.{next_below, next_less, walk_end, walk_turn}
 use Rattle.sending.specs.Sending.{send_all_of, send_up_of}
 use borrow.Author.Rules.{rules}
 use Rattle.sending.proofs.send_all.Statement.{statement}
@@ -17,11 +17,11 @@ abbrev decreases-loop : tie.decreases-loop
 decreases-loop t₀ e b to left₀ t left = left
 
 below : (c : tie.After-next invariant-loop decreases-loop) → c.next.result < 32
-below c = next-below 32 c.before.before.loop.left c.next.result (omega arith) c.before.before.loop.invariant.0 c.next.ensures
+below c = next_below 32 c.before.before.loop.left c.next.result (omega arith) c.before.before.loop.invariant.0 c.next.ensures
 
 less : (c : tie.After-cut invariant-loop decreases-loop) → c.cut.result < c.before.before.before.before.before.loop.left
 less c =
-    next-less 32 c.before.before.before.before.before.loop.left c.before.before.before.next.result (omega arith) c.before.before.before.before.before.loop.invariant.0 c.before.before.before.next.ensures c.cut.result
+    next_less 32 c.before.before.before.before.before.loop.left c.before.before.before.next.result (omega arith) c.before.before.before.before.before.loop.invariant.0 c.before.before.before.next.ensures c.cut.result
     c.cut.ensures
 
 loop-holds : tie.Need-loop-init invariant-loop decreases-loop
@@ -50,8 +50,8 @@ loop-again c = (
 returns : tie.Need-returns invariant-loop decreases-loop
 returns c = sym (walk_end _ 32 c.before.loop.t c.before.loop.left c.loop-test.false) ∙ c.before.loop.invariant.1
 
-pub send_all_spec : {M : Type 1} → statement M
-send_all_spec =
+pub send-all-spec : {M : Type 1} → statement M
+send-all-spec =
     tie.close
     (tie.spec
     invariant-loop

@@ -22,7 +22,7 @@ returns c = search rules
 returns-2 : tie.Need-returns-2
 returns-2 c = rw (c.before.before.before.before.on.given.1, ← c.before.before.sent-from.ensures) c.append.ensures
 
-pub send_on_spec : {M : Type 1} → statement M
-send_on_spec =
+pub send-on-spec : {M : Type 1} → statement M
+send-on-spec =
     tie.close
     (tie.spec enum_told enum-known-on sent-from-requires append-requires returns returns-2)

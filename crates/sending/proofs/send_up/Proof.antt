@@ -25,7 +25,7 @@ returns : tie.Need-returns
 unfolding send_up_of
 returns c = rw (← c.before.before.before.before.hop-of.ensures, ← c.before.before.before.burst-kind.ensures, ← c.before.before.sent-from.ensures) c.append.ensures
 
-pub send_up_spec : {M : Type 1} → statement M
-send_up_spec =
+pub send-up-spec : {M : Type 1} → statement M
+send-up-spec =
     tie.close
     (tie.spec hop-of-requires burst-kind-requires sent-from-requires append-requires returns)

@@ -13,5 +13,5 @@ next-hop-requires c κs = search rules
 returns : tie.Need-returns
 returns c = rw (c.next-hop.ensures, c.before.goes_down.ensures)
 
-pub sent_from_spec : {M : Type 1} → statement M
-sent_from_spec = tie.close (tie.spec goes-down-requires next-hop-requires returns)
+pub sent-from-spec : {M : Type 1} → statement M
+sent-from-spec = tie.close (tie.spec goes-down-requires next-hop-requires returns)

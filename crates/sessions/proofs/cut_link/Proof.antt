@@ -12,5 +12,5 @@ shl-result c = search rules
 returns : tie.Need-returns
 returns c = rw (shl_one 64 _ c.requires) (and_cut 64 c.args.e c.args.w c.requires (omega arith))
 
-pub cut_link_spec : {M : Type 1} → statement M
-cut_link_spec = tie.close (tie.spec shl-result returns)
+pub cut-link-spec : {M : Type 1} → statement M
+cut-link-spec = tie.close (tie.spec shl-result returns)

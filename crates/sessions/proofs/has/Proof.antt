@@ -11,5 +11,5 @@ shr-result c = search rules
 returns : tie.Need-returns
 returns c = rw (has_shr c.args.s c.args.w)
 
-pub has_spec : {M : Type 1} → statement M
-has_spec = tie.close (tie.spec shr-result returns)
+pub has-spec : {M : Type 1} → statement M
+has-spec = tie.close (tie.spec shr-result returns)

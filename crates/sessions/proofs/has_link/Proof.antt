@@ -20,5 +20,5 @@ shr-result c = search rules
 returns-2 : tie.Need-returns-2
 returns-2 c = rw (has_shr c.before.args.e c.before.args.w)
 
-pub has_link_spec : {M : Type 1} → statement M
-has_link_spec = tie.close (tie.spec returns shr-result returns-2)
+pub has-link-spec : {M : Type 1} → statement M
+has-link-spec = tie.close (tie.spec returns shr-result returns-2)

@@ -11,5 +11,5 @@ shl-result c = search rules
 returns : tie.Need-returns
 returns c = shl_one 32 c.args.s c.requires
 
-pub only_spec : {M : Type 1} → statement M
-only_spec = tie.close (tie.spec shl-result returns)
+pub only-spec : {M : Type 1} → statement M
+only-spec = tie.close (tie.spec shl-result returns)

@@ -11,5 +11,5 @@ shl-result c = search rules
 returns : tie.Need-returns
 returns c = shl_one 64 c.args.e c.requires
 
-pub only_link_spec : {M : Type 1} → statement M
-only_link_spec = tie.close (tie.spec shl-result returns)
+pub only-link-spec : {M : Type 1} → statement M
+only-link-spec = tie.close (tie.spec shl-result returns)

@@ -11,5 +11,5 @@ shl-result c = search rules
 returns : tie.Need-returns
 returns c = rw (shl_one 64 _ c.requires) (or_put c.args.e c.args.w)
 
-pub put_link_spec : {M : Type 1} → statement M
-put_link_spec = tie.close (tie.spec shl-result returns)
+pub put-link-spec : {M : Type 1} → statement M
+put-link-spec = tie.close (tie.spec shl-result returns)

@@ -8,5 +8,5 @@ use Rattle.sessions.proofs.size.Tie as tie
 returns : tie.Need-returns
 returns c = ones_in_lem 32 c.args.w (omega arith)
 
-pub size_spec : {M : Type 1} → statement M
-size_spec = tie.close (tie.spec returns)
+pub size-spec : {M : Type 1} → statement M
+size-spec = tie.close (tie.spec returns)

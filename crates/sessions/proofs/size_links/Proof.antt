@@ -8,5 +8,5 @@ use Rattle.sessions.proofs.size_links.Tie as tie
 returns : tie.Need-returns
 returns c = ones_in_lem 64 c.args.w (omega arith)
 
-pub size_links_spec : {M : Type 1} → statement M
-size_links_spec = tie.close (tie.spec returns)
+pub size-links-spec : {M : Type 1} → statement M
+size-links-spec = tie.close (tie.spec returns)

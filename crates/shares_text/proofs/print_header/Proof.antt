@@ -42,8 +42,8 @@ write-all-requires-3 c κs = search rules
 returns : tie.Need-returns
 returns c = search rules
 
-pub print_header_spec : {M : Type 1} → statement M
-print_header_spec =
+pub print-header-spec : {M : Type 1} → statement M
+print-header-spec =
     tie.close
     (tie.spec
     slice-aggregate-write-all

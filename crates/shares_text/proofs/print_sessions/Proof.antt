@@ -2,7 +2,7 @@
 -- Assumes nothing.
 use native.Mathlib.Omega.{arith}
 use Prim.Native.Nat.{◌^◌, ◌<◌}
-use Rattle.sessions.proofs.Walks.{next-below, next-less}
+use Rattle.sessions.proofs.Walks.{next_below, next_less}
 use Rattle.shares_text.proofs.print_sessions.Statement.{statement}
 use Rattle.shares_text.proofs.print_sessions.Tie as tie
 
@@ -14,10 +14,10 @@ decreases-loop sessions nums dens places left₀ left = left
 
 -- the next session is below 32, and less is left
 below : (c : tie.After-next invariant-loop decreases-loop) → c.next.result < 32
-below c = next-below 32 c.before.before.loop.left c.next.result (omega arith) c.before.before.loop.invariant c.next.ensures
+below c = next_below 32 c.before.before.loop.left c.next.result (omega arith) c.before.before.loop.invariant c.next.ensures
 
 less : (c : tie.After-cut invariant-loop decreases-loop) → c.cut.result < c.before.before.before.before.loop.left
-less c = next-less 32 c.before.before.before.before.loop.left c.before.before.next.result (omega arith) c.before.before.before.before.loop.invariant c.before.before.next.ensures c.cut.result c.cut.ensures
+less c = next_less 32 c.before.before.before.before.loop.left c.before.before.next.result (omega arith) c.before.before.before.before.loop.invariant c.before.before.next.ensures c.cut.result c.cut.ensures
 
 loop-holds : tie.Need-loop-init invariant-loop decreases-loop
 loop-holds c = omega arith
@@ -61,8 +61,8 @@ loop-again c = omega (arith, less c)
 returns : tie.Need-returns invariant-loop decreases-loop
 returns c = tt
 
-pub print_sessions_spec : {M : Type 1} → statement M
-print_sessions_spec =
+pub print-sessions-spec : {M : Type 1} → statement M
+print-sessions-spec =
     tie.close
     (tie.spec
     invariant-loop

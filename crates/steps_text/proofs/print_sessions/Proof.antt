@@ -40,8 +40,8 @@ loop-again c = omega arith
 returns : tie.Need-returns invariant-loop decreases-loop
 returns c = search rules
 
-pub print_sessions_spec : {M : Type 1} → statement M
-print_sessions_spec =
+pub print-sessions-spec : {M : Type 1} → statement M
+print-sessions-spec =
     tie.close
     (tie.spec
     invariant-loop

@@ -19,6 +19,6 @@ returns c = rw (← c.before.before.is_a_link.ensures, c.before.if1.true) c.equa
 returns-2 : tie.Need-returns-2
 returns-2 c = rw (← c.before.before.is_a_link.ensures, c.before.if1.false) c.at-most-b.ensures
 
-pub accepted_spec : {M : Type 1} → statement M
-accepted_spec =
+pub accepted-spec : {M : Type 1} → statement M
+accepted-spec =
     tie.close (tie.spec is-link-requires equals-b-requires at-most-b-requires returns returns-2)

@@ -25,7 +25,7 @@ returns-2 : tie.Need-returns-2
 unfolding answered_of
 returns-2 c = rw (← c.before.before.all-at-b.ensures, c.before.if1.false, ← c.before.before.before.is-fine.ensures) c.quietly.ensures
 
-pub answered_spec : {M : Type 1} → statement M
-answered_spec =
+pub answered-spec : {M : Type 1} → statement M
+answered-spec =
     tie.close
     (tie.spec is-fine-requires all-at-b-requires cut-requires returns quietly-requires returns-2)

@@ -22,7 +22,7 @@ returns c = rw (← c.before.before.has.ensures, c.before.if1.true) c.awaits-res
 returns-2 : tie.Need-returns-2
 returns-2 c = rw (← c.before.has.ensures, c.if1.false)
 
-pub awaits_in_r_spec : {M : Type 1} → statement M
-awaits_in_r_spec =
+pub awaits-in-r-spec : {M : Type 1} → statement M
+awaits-in-r-spec =
     tie.close
     (tie.spec mul-x element-copy-out-x has-requires awaits-response-requires returns returns-2)

@@ -22,6 +22,6 @@ returns-2 : tie.Need-returns-2
 unfolding bottleneck_of
 returns-2 c = rw (← c.before.before.idle-in-r.ensures, c.before.if1.false) c.quietly2.ensures
 
-pub bottleneck_at_spec : {M : Type 1} → statement M
-bottleneck_at_spec =
+pub bottleneck-at-spec : {M : Type 1} → statement M
+bottleneck-at-spec =
     tie.close (tie.spec idle-in-r-requires quietly-requires returns quietly-requires-2 returns-2)

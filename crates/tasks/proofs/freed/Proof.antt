@@ -33,8 +33,8 @@ returns : tie.Need-returns
 unfolding freed_of
 returns c = rw (← c.before.before.before.before.before.before.cut.ensures, ← c.before.before.before.before.before.put.ensures, ← c.before.before.before.before.with-words.ensures, ← c.before.before.before.those.ensures, ← c.before.before.bottleneck-rate.ensures.0, ← c.before.is-fine.ensures) c.updating.ensures
 
-pub freed_spec : {M : Type 1} → statement M
-freed_spec =
+pub freed-spec : {M : Type 1} → statement M
+freed-spec =
     tie.close
     (tie.spec
     cut-requires

@@ -46,8 +46,8 @@ returns-6 c = search rules
 returns-7 : tie.Need-returns-7
 returns-7 c = search rules
 
-pub goes_down_spec : {M : Type 1} → statement M
-goes_down_spec =
+pub goes-down-spec : {M : Type 1} → statement M
+goes-down-spec =
     tie.close
     (tie.spec
     enum-known-kind

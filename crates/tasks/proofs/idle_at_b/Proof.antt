@@ -22,7 +22,7 @@ returns c = rw (← c.before.before.is-idle.ensures, c.before.if1.true) c.equals
 returns-2 : tie.Need-returns-2
 returns-2 c = rw (← c.before.is-idle.ensures, c.if1.false)
 
-pub idle_at_b_spec : {M : Type 1} → statement M
-idle_at_b_spec =
+pub idle-at-b-spec : {M : Type 1} → statement M
+idle-at-b-spec =
     tie.close
     (tie.spec mul-x element-copy-out-x is-idle-requires equals-b-requires returns returns-2)

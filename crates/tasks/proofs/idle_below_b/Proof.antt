@@ -22,7 +22,7 @@ returns c = rw (← c.before.before.below-b.ensures, c.before.if1.true) c.is-idl
 returns-2 : tie.Need-returns-2
 returns-2 c = rw (← c.before.below-b.ensures, c.if1.false)
 
-pub idle_below_b_spec : {M : Type 1} → statement M
-idle_below_b_spec =
+pub idle-below-b-spec : {M : Type 1} → statement M
+idle-below-b-spec =
     tie.close
     (tie.spec mul-x element-copy-out-x below-b-requires is-idle-requires returns returns-2)

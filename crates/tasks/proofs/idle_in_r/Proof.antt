@@ -22,6 +22,6 @@ returns c = rw (← c.before.before.is-idle.ensures, c.before.if1.true) c.has.en
 returns-2 : tie.Need-returns-2
 returns-2 c = rw (← c.before.is-idle.ensures, c.if1.false)
 
-pub idle_in_r_spec : {M : Type 1} → statement M
-idle_in_r_spec =
+pub idle-in-r-spec : {M : Type 1} → statement M
+idle-in-r-spec =
     tie.close (tie.spec mul-x element-copy-out-x is-idle-requires has-requires returns returns-2)

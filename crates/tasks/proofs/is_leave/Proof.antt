@@ -46,8 +46,8 @@ returns-6 c = search rules
 returns-7 : tie.Need-returns-7
 returns-7 c = search rules
 
-pub is_leave_spec : {M : Type 1} → statement M
-is_leave_spec =
+pub is-leave-spec : {M : Type 1} → statement M
+is-leave-spec =
     tie.close
     (tie.spec
     enum-known-kind

@@ -16,5 +16,5 @@ returns c = search rules
 returns-2 : tie.Need-returns-2
 returns-2 c = rw c.before.eta.given.1
 
-pub is_link_spec : {M : Type 1} → statement M
-is_link_spec = tie.close (tie.spec enum_told enum-known-eta returns returns-2)
+pub is-link-spec : {M : Type 1} → statement M
+is-link-spec = tie.close (tie.spec enum_told enum-known-eta returns returns-2)

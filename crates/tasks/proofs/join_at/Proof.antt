@@ -42,8 +42,8 @@ returns : tie.Need-returns
 unfolding join_of
 returns c = rw (c.is-fine.ensures, c.before.named.ensures, c.before.before.lowered.ensures, c.before.before.before.before.process-new-restricted.ensures, c.before.before.before.before.before.with-entry.ensures, c.before.before.before.before.before.before.joining-entry.ensures, c.before.before.before.before.before.before.before.with-words.ensures, c.before.before.before.before.before.before.before.before.put.ensures)
 
-pub join_at_spec : {M : Type 1} → statement M
-join_at_spec =
+pub join-at-spec : {M : Type 1} → statement M
+join-at-spec =
     tie.close
     (tie.spec
     put-requires

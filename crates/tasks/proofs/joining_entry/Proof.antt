@@ -13,5 +13,5 @@ zero-requires c κs = search rules
 returns : tie.Need-returns
 returns c = ap (entry mu.WaitingResponse) c.zero.ensures
 
-pub joining_entry_spec : {M : Type 1} → statement M
-joining_entry_spec = tie.close (tie.spec zero-requires returns)
+pub joining-entry-spec : {M : Type 1} → statement M
+joining-entry-spec = tie.close (tie.spec zero-requires returns)

@@ -2,7 +2,7 @@
 -- Assumes nothing.
 use mathlib.Core.Path.{ap, subst, sym, ◌∙◌}
 use Rattle.links.specs.Links.{BoundSized, Workable}
-use Rattle.links.proofs.Sizes.{B-sized}
+use Rattle.links.proofs.Sizes.{b_sized}
 use Rattle.tasks.proofs.Leaves.{workable_without}
 use Rattle.tasks.specs.Figure2.{leave_of}
 use borrow.Author.Rules.{rules}
@@ -16,7 +16,7 @@ cut-requires : tie.Need-cut-requires
 cut-requires c κs = search rules
 
 those-requires : tie.Need-those-requires
-those-requires c κs = (subst BoundSized (sym c.before.bottleneck-rate.ensures.0) (B-sized _ c.before.before.requires.1), c.before.before.requires.1.rates)
+those-requires c κs = (subst BoundSized (sym c.before.bottleneck-rate.ensures.0) (b_sized _ c.before.before.requires.1), c.before.before.requires.1.rates)
 
 without-requires : tie.Need-without-requires
 without-requires c κs = search rules
@@ -34,8 +34,8 @@ returns : tie.Need-returns
 unfolding leave_of
 returns c = rw (← c.before.before.before.before.before.before.bottleneck-rate.ensures.0, ← c.before.before.before.before.before.cut.ensures, ← c.before.before.before.before.those.ensures, ← c.before.before.before.without.ensures, ← c.before.before.bottleneck-rate2.ensures.0, ← c.before.both-fine.ensures) c.updating.ensures
 
-pub leave_at_spec : {M : Type 1} → statement M
-leave_at_spec =
+pub leave-at-spec : {M : Type 1} → statement M
+leave-at-spec =
     tie.close
     (tie.spec
     bottleneck-rate-requires

@@ -20,6 +20,6 @@ returns c = search rules
 returns-2 : tie.Need-returns-2
 returns-2 c = search rules
 
-pub link_step_spec : {M : Type 1} → statement M
-link_step_spec =
+pub link-step-spec : {M : Type 1} → statement M
+link-step-spec =
     tie.close (tie.spec holds-requires held-requires not-held-requires returns returns-2)

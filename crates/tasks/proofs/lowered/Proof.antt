@@ -31,7 +31,7 @@ returns-3 c = search rules
 returns-4 : tie.Need-returns-4
 returns-4 c = search rules
 
-pub lowered_spec : {M : Type 1} → statement M
-lowered_spec =
+pub lowered-spec : {M : Type 1} → statement M
+lowered-spec =
     tie.close
     (tie.spec enum-known-b lt-requires enum_told enum-told-2 returns returns-2 returns-3 returns-4)

@@ -13,5 +13,5 @@ returns c = rw (← c.before.above-b.ensures, c.if1.true)
 returns-2 : tie.Need-returns-2
 returns-2 c = rw (← c.before.above-b.ensures, c.if1.false)
 
-pub named_spec : {M : Type 1} → statement M
-named_spec = tie.close (tie.spec above-b-requires returns returns-2)
+pub named-spec : {M : Type 1} → statement M
+named-spec = tie.close (tie.spec above-b-requires returns returns-2)

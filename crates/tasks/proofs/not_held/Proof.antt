@@ -78,8 +78,8 @@ returns-7 : tie.Need-returns-7
 unfolding link_step_of
 returns-7 c = rw (c.before.enum-told3.given.1, c.before.before.before.requires.3) c.quietly6.ensures
 
-pub not_held_spec : {M : Type 1} → statement M
-not_held_spec =
+pub not-held-spec : {M : Type 1} → statement M
+not-held-spec =
     tie.close
     (tie.spec
     enum-known-kind

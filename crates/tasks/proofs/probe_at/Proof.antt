@@ -28,7 +28,7 @@ returns-2 : tie.Need-returns-2
 unfolding probe_of
 returns-2 c = rw (← c.before.before.before.with-mu.ensures, ← c.before.before.has.ensures, c.before.if1.false) c.staying.ensures
 
-pub probe_at_spec : {M : Type 1} → statement M
-probe_at_spec =
+pub probe-at-spec : {M : Type 1} → statement M
+probe-at-spec =
     tie.close
     (tie.spec with-mu-requires has-requires restricted-requires returns staying-requires returns-2)

@@ -38,8 +38,8 @@ returns-3 : tie.Need-returns-3
 unfolding response_of
 returns-3 c = rw c.before.enum-told3.given.1 c.agreed2.ensures
 
-pub response_at_spec : {M : Type 1} → statement M
-response_at_spec =
+pub response-at-spec : {M : Type 1} → statement M
+response-at-spec =
     tie.close
     (tie.spec
     enum_told

@@ -22,7 +22,7 @@ returns-2 : tie.Need-returns-2
 unfolding link_step_of
 returns-2 c = rw (← c.before.before.awaits-in-r.ensures, c.before.if1.false) c.quietly.ensures
 
-pub response_or_dropped_spec : {M : Type 1} → statement M
-response_or_dropped_spec =
+pub response-or-dropped-spec : {M : Type 1} → statement M
+response-or-dropped-spec =
     tie.close
     (tie.spec awaits-in-r-requires response-at-requires returns quietly-requires returns-2)

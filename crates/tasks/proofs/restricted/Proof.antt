@@ -39,8 +39,8 @@ returns : tie.Need-returns
 unfolding restricted_of
 returns c = rw (c.is-fine.ensures, c.before.named.ensures, c.before.before.lowered.ensures, c.before.before.before.before.process-new-restricted.ensures, c.before.before.before.before.before.with-words.ensures, c.before.before.before.before.before.before.cut.ensures, c.before.before.before.before.before.before.before.put.ensures)
 
-pub restricted_spec : {M : Type 1} → statement M
-restricted_spec =
+pub restricted-spec : {M : Type 1} → statement M
+restricted-spec =
     tie.close
     (tie.spec
     put-requires

@@ -2,7 +2,7 @@
 -- Assumes nothing.
 use mathlib.Core.Path.{ap, subst, sym, ◌∙◌}
 use Rattle.links.specs.Links.{BoundSized}
-use Rattle.links.proofs.Sizes.{B-sized}
+use Rattle.links.proofs.Sizes.{b_sized}
 use Rattle.tasks.specs.Figure2.{set_bottleneck_of}
 use borrow.Author.Rules.{rules}
 use Rattle.tasks.proofs.set_bottleneck_at.Statement.{statement}
@@ -15,7 +15,7 @@ is-fine-requires : tie.Need-is-fine-requires
 is-fine-requires c κs = search rules
 
 all-at-b-requires : tie.Need-all-at-b-requires
-all-at-b-requires c κs = (subst BoundSized (sym c.before.bottleneck-rate.ensures.0) (B-sized _ c.before.before.requires.1), c.before.before.requires.1.rates)
+all-at-b-requires c κs = (subst BoundSized (sym c.before.bottleneck-rate.ensures.0) (b_sized _ c.before.before.requires.1), c.before.before.requires.1.rates)
 
 quietly-requires : tie.Need-quietly-requires
 quietly-requires c κs = search rules
@@ -25,17 +25,17 @@ unfolding set_bottleneck_of
 returns c = rw (← c.before.before.before.before.bottleneck-rate.ensures.0, ← c.before.before.all-at-b.ensures, c.before.if1.true, ← c.before.before.before.is-fine.ensures) c.quietly.ensures
 
 idle-below-b-requires : tie.Need-idle-below-b-requires
-idle-below-b-requires c κs = (c.before.before.before.before.requires.0, subst BoundSized (sym c.before.before.before.bottleneck-rate.ensures.0) (B-sized _ c.before.before.before.before.requires.1), c.before.before.before.before.requires.1.rates)
+idle-below-b-requires c κs = (c.before.before.before.before.requires.0, subst BoundSized (sym c.before.before.before.bottleneck-rate.ensures.0) (b_sized _ c.before.before.before.before.requires.1), c.before.before.before.before.requires.1.rates)
 
 freed-requires : tie.Need-freed-requires
-freed-requires c κs = (c.before.before.before.before.before.before.requires.0, subst BoundSized (sym c.before.before.before.before.before.bottleneck-rate.ensures.0) (B-sized _ c.before.before.before.before.before.before.requires.1), c.before.before.before.before.before.before.requires.1)
+freed-requires c κs = (c.before.before.before.before.before.before.requires.0, subst BoundSized (sym c.before.before.before.before.before.bottleneck-rate.ensures.0) (b_sized _ c.before.before.before.before.before.before.requires.1), c.before.before.before.before.before.before.requires.1)
 
 returns-2 : tie.Need-returns-2
 unfolding set_bottleneck_of
 returns-2 c = rw (← c.before.before.before.before.before.before.bottleneck-rate.ensures.0, ← c.before.before.before.before.all-at-b.ensures, c.before.before.before.if1.false, ← c.before.before.idle-below-b.ensures, c.before.if2.true) c.freed.ensures
 
 idle-at-b-requires : tie.Need-idle-at-b-requires
-idle-at-b-requires c κs = (c.before.before.before.before.before.before.requires.0, subst BoundSized (sym c.before.before.before.before.before.bottleneck-rate.ensures.0) (B-sized _ c.before.before.before.before.before.before.requires.1), c.before.before.before.before.before.before.requires.1.rates)
+idle-at-b-requires c κs = (c.before.before.before.before.before.before.requires.0, subst BoundSized (sym c.before.before.before.before.before.bottleneck-rate.ensures.0) (b_sized _ c.before.before.before.before.before.before.requires.1), c.before.before.before.before.before.before.requires.1.rates)
 
 quietly-requires-2 : tie.Need-quietly-requires-2
 quietly-requires-2 c κs = search rules
@@ -51,8 +51,8 @@ returns-4 : tie.Need-returns-4
 unfolding set_bottleneck_of
 returns-4 c = rw (← c.before.before.before.before.before.before.before.before.bottleneck-rate.ensures.0, ← c.before.before.before.before.before.before.all-at-b.ensures, c.before.before.before.before.before.if1.false, ← c.before.before.before.before.idle-below-b.ensures, c.before.before.before.if2.false, ← c.before.before.idle-at-b.ensures, c.before.if3.false, ← c.before.before.before.before.before.before.before.is-fine.ensures) c.quietly3.ensures
 
-pub set_bottleneck_at_spec : {M : Type 1} → statement M
-set_bottleneck_at_spec =
+pub set-bottleneck-at-spec : {M : Type 1} → statement M
+set-bottleneck-at-spec =
     tie.close
     (tie.spec
     bottleneck-rate-requires

@@ -2,7 +2,7 @@
 -- Assumes nothing.
 use mathlib.Core.Path.{ap, subst, sym, ◌∙◌}
 use Rattle.links.specs.Links.{BoundSized}
-use Rattle.links.proofs.Sizes.{B-sized}
+use Rattle.links.proofs.Sizes.{b_sized}
 use Rattle.tasks.specs.Figure2.{staying_of}
 use borrow.Author.Rules.{rules}
 use Rattle.tasks.proofs.staying.Statement.{statement}
@@ -12,10 +12,10 @@ bottleneck-rate-requires : tie.Need-bottleneck-rate-requires
 bottleneck-rate-requires c κs = search rules
 
 lowered-requires : tie.Need-lowered-requires
-lowered-requires c κs = (subst BoundSized (sym c.bottleneck-rate.ensures.0) (B-sized _ c.before.requires.1), c.before.requires.0)
+lowered-requires c κs = (subst BoundSized (sym c.bottleneck-rate.ensures.0) (b_sized _ c.before.requires.1), c.before.requires.0)
 
 named-requires : tie.Need-named-requires
-named-requires c κs = (subst BoundSized (sym c.before.bottleneck-rate.ensures.0) (B-sized _ c.before.before.requires.1), c.before.before.requires.0)
+named-requires c κs = (subst BoundSized (sym c.before.bottleneck-rate.ensures.0) (b_sized _ c.before.before.requires.1), c.before.before.requires.0)
 
 is-fine-requires : tie.Need-is-fine-requires
 is-fine-requires c κs = search rules
@@ -27,8 +27,8 @@ returns : tie.Need-returns
 unfolding staying_of
 returns c = rw (← c.before.before.before.before.bottleneck-rate.ensures.0, ← c.before.before.before.lowered.ensures, ← c.before.before.named.ensures, ← c.before.is-fine.ensures) c.quietly.ensures
 
-pub staying_spec : {M : Type 1} → statement M
-staying_spec =
+pub staying-spec : {M : Type 1} → statement M
+staying-spec =
     tie.close
     (tie.spec
     bottleneck-rate-requires

@@ -31,8 +31,8 @@ returns-2 : tie.Need-returns-2
 unfolding update_of
 returns-2 c = rw (← c.before.before.is-idle.ensures, c.before.if1.false) c.quietly2.ensures
 
-pub update_at_spec : {M : Type 1} → statement M
-update_at_spec =
+pub update-at-spec : {M : Type 1} → statement M
+update-at-spec =
     tie.close
     (tie.spec
     mul-x

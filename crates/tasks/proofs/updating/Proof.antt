@@ -10,5 +10,5 @@ waiting-requires c κs = search rules
 returns : tie.Need-returns
 returns c = rw c.waiting.ensures
 
-pub updating_spec : {M : Type 1} → statement M
-updating_spec = tie.close (tie.spec waiting-requires returns)
+pub updating-spec : {M : Type 1} → statement M
+updating-spec = tie.close (tie.spec waiting-requires returns)

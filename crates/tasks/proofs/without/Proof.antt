@@ -38,8 +38,8 @@ returns-2 : tie.Need-returns-2
 unfolding without_of
 returns-2 c = rw (c.with-entry2.ensures, c.before.with-words2.ensures, c.before.before.cut2.ensures, c.before.before.before.before.before.zero.ensures, ← c.before.before.before.before.has.ensures, c.before.before.before.if1.false)
 
-pub without_spec : {M : Type 1} → statement M
-without_spec =
+pub without-spec : {M : Type 1} → statement M
+without-spec =
     tie.close
     (tie.spec
     zero-requires

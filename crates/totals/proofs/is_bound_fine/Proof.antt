@@ -50,8 +50,8 @@ returns-3 c = rw c.enum_told.given.1
 returns-4 : tie.Need-returns-4
 returns-4 c = rw c.enum-told2.given.1 (sym (fine_past _ _))
 
-pub is_bound_fine_spec : {M : Type 1} → statement M
-is_bound_fine_spec =
+pub is-bound-fine-spec : {M : Type 1} → statement M
+is-bound-fine-spec =
     tie.close
     (tie.spec
     enum-known-total

@@ -11,7 +11,7 @@ use Rattle.links.specs.declared.Link.{Link}
 use Rattle.links.specs.Links.{TotalSized, more_of, rate_at, sum_of, total_said}
 use Rattle.links.proofs.Sizes.{more_sized}
 use Rattle.sessions.specs.Set.{members, walk}
-use Rattle.sessions.proofs.Walks.{next-below, next-less, walk_end, walk_turn}
+use Rattle.sessions.proofs.Walks.{next_below, next_less, walk_end, walk_turn}
 use Rattle.table.specs.Words.{place_of}
 use Rattle.table.proofs.InRange.{capacity_most, f_below, row_rates}
 use borrow.Author.Rules.{rules}
@@ -27,7 +27,7 @@ abbrev decreases-loop : tie.decreases-loop
 decreases-loop t e capacity total₀ left₀ total left = left
 
 below : (c : tie.After-next invariant-loop decreases-loop) → c.next.result < 32
-below c = next-below 32 c.before.before.loop.left c.next.result (omega arith) c.before.before.loop.invariant.0 c.next.ensures
+below c = next_below 32 c.before.before.loop.left c.next.result (omega arith) c.before.before.loop.invariant.0 c.next.ensures
 
 rated : (c : tie.After-entry-in invariant-loop decreases-loop) → Sized max_rate c.entry_in.result.rate
 rated c =
@@ -38,7 +38,7 @@ less : (c : tie.After-cut invariant-loop decreases-loop) → c.cut.result < c.be
 less c =
     let l = c.before.before.before.before.before.loop in
     let n = c.before.before.before.next in
-    next-less 32 l.left n.result (omega arith) l.invariant.0 n.ensures c.cut.result c.cut.ensures
+    next_less 32 l.left n.result (omega arith) l.invariant.0 n.ensures c.cut.result c.cut.ensures
 
 link-at-requires : tie.Need-link-at-requires invariant-loop decreases-loop
 link-at-requires c κs = search rules
@@ -98,8 +98,8 @@ returns c =
     let l = c.before.loop in
     said_too total_said (sym (walk_end _ 32 l.total l.left c.loop-test.false) ∙ l.invariant.3)
 
-pub sum_at_spec : {M : Type 1} → statement M
-sum_at_spec =
+pub sum-at-spec : {M : Type 1} → statement M
+sum-at-spec =
     tie.close
     (tie.spec
     invariant-loop

@@ -48,8 +48,8 @@ take-records-requires c κs = search rules
 returns-2 : tie.Need-returns-2
 returns-2 c = search rules
 
-pub take_input_spec : {M : Type 1} → statement M
-take_input_spec =
+pub take-input-spec : {M : Type 1} → statement M
+take-input-spec =
     tie.close
     (tie.spec
     slice-aggregate-read-full

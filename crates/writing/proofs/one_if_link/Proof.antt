@@ -11,5 +11,5 @@ returns c = (simp (lt-ltb _ _ c.if1.true), omega arith)
 returns-2 : tie.Need-returns-2
 returns-2 c = (simp (le-ltb _ _ c.if1.false), omega arith)
 
-pub one_if_link_spec : {M : Type 1} → statement M
-one_if_link_spec = tie.close (tie.spec returns returns-2)
+pub one-if-link-spec : {M : Type 1} → statement M
+one-if-link-spec = tie.close (tie.spec returns returns-2)

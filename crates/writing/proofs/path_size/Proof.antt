@@ -59,8 +59,8 @@ returns c =
     let all : z.h ≡ 8 = omega arith in
     (z.invariant.1 ∙ ap (λ (k : ℕ). sum k (λ i. part (ltb (byte_at a.path.now a.t i) 64) 1)) all, omega (arith, z.invariant.2, all))
 
-pub path_size_spec : {M : Type 1} → statement M
-path_size_spec =
+pub path-size-spec : {M : Type 1} → statement M
+path-size-spec =
     tie.close
     (tie.spec
     invariant-loop

@@ -46,8 +46,8 @@ returns c =
     let two : suc (suc at) ≡ at + 2 = omega arith in
     rw (two, one) c.before.before.put-number.ensures
 
-pub put_link_spec : {M : Type 1} → statement M
-put_link_spec =
+pub put-link-spec : {M : Type 1} → statement M
+put-link-spec =
     tie.close
     (tie.spec
     slice-write-out

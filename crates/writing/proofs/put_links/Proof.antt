@@ -7,10 +7,10 @@ use lib.Seq.{length-sets}
 use native.Mathlib.Omega.{arith}
 use Rattle.sessions.specs.Set.{has}
 use Rattle.sessions.proofs.Counts.{count_most}
-use Rattle.sessions.proofs.Walks.{below_low, next-below, next-has, next-less}
+use Rattle.sessions.proofs.Walks.{below_low, next_below, next_has, next_less}
 use Rattle.writing.specs.Writing.{link_from, records_from}
 use Rattle.writing.proofs.Lengths.{links_long}
-use Rattle.writing.proofs.LaidOut.{Laid, done, laid-all, laid-fits, laid_none, laid-turn}
+use Rattle.writing.proofs.LaidOut.{Laid, done, laid_all, laid_fits, laid_none, laid_turn}
 use Rattle.writing.proofs.put_links.Statement.{statement}
 use Rattle.writing.proofs.put_links.Tie as tie
 
@@ -22,10 +22,10 @@ decreases-loop out₀ from links capacity at₀ left₀ out at left = left
 
 -- the next link, which is the lowest that is left
 low : (c : tie.After-next-link invariant-loop decreases-loop) → c.next-link.result < 64
-low c = let z = c.before.before.loop in next-below 64 z.left c.next-link.result (omega arith) z.invariant.word c.next-link.ensures
+low c = let z = c.before.before.loop in next_below 64 z.left c.next-link.result (omega arith) z.invariant.word c.next-link.ensures
 
 here : (c : tie.After-next-link invariant-loop decreases-loop) → has c.next-link.result c.before.before.loop.left ≡ 1
-here c = let z = c.before.before.loop in next-has 64 z.left c.next-link.result (omega arith) z.invariant.word c.next-link.ensures
+here c = let z = c.before.before.loop in next_has 64 z.left c.next-link.result (omega arith) z.invariant.word c.next-link.ensures
 
 lowest : (c : tie.After-next-link invariant-loop decreases-loop) (i : ℕ) → i < c.next-link.result → has i c.before.before.loop.left ≡ 0
 lowest c i h = below_low 64 c.before.before.loop.left i (omega (arith, h, c.next-link.ensures))
@@ -54,7 +54,7 @@ put-link-requires c κs =
       omega (
         arith,
         p.1,
-        laid-fits 64 (link_from a.capacity.now) a.links a.out.now a.from z.left z.at z.out z.invariant n.next-link.result (low n) (here n) (lowest n),
+        laid_fits 64 (link_from a.capacity.now) a.links a.out.now a.from z.left z.at z.out z.invariant n.next-link.result (low n) (here n) (lowest n),
         ap length z.invariant.bytes,
         length-sets a.out.now a.from (records_from 64 0 (done a.links z.left) (link_from a.capacity.now)),
       ),
@@ -69,7 +69,7 @@ add_at c =
     let n = c.before.before.before.before.before in
     omega (
       arith,
-      laid-fits 64 (link_from a.capacity.now) a.links a.out.now a.from z.left z.at z.out z.invariant n.next-link.result (low n) (here n) (lowest n),
+      laid_fits 64 (link_from a.capacity.now) a.links a.out.now a.from z.left z.at z.out z.invariant n.next-link.result (low n) (here n) (lowest n),
       c.before.before.before.before.before.before.before.before.before.requires.0,
       links_long a.links a.capacity.now,
       count_most 64 a.links,
@@ -82,14 +82,14 @@ loop-less : tie.Need-loop-smaller invariant-loop decreases-loop
 loop-less c =
     let z = c.before.before.before.before.before.before.before.before.loop in
     let n = c.before.before.before.before.before.before.next-link in
-    next-less 64 z.left n.result (omega arith) z.invariant.word n.ensures c.cut-link.result c.cut-link.ensures
+    next_less 64 z.left n.result (omega arith) z.invariant.word n.ensures c.cut-link.result c.cut-link.ensures
 
 loop-again : tie.Need-loop-preserved invariant-loop decreases-loop
 loop-again c =
     let a = c.before.before.before.before.before.before.before.before.before.before.args in
     let z = c.before.before.before.before.before.before.before.before.loop in
     let n = c.before.before.before.before.before.before in
-    laid-turn 64 (link_from a.capacity.now) a.links a.out.now a.from z.left z.at z.out z.invariant n.next-link.result (low n) (here n) (lowest n)
+    laid_turn 64 (link_from a.capacity.now) a.links a.out.now a.from z.left z.at z.out z.invariant n.next-link.result (low n) (here n) (lowest n)
     c.cut-link.result c.cut-link.ensures _ c.before.before.before.put-link.ensures
 
 same_length : tie.Need-same-length invariant-loop decreases-loop
@@ -102,10 +102,10 @@ returns : tie.Need-returns invariant-loop decreases-loop
 returns c =
     let a = c.before.before.before.args in
     let z = c.before.loop in
-    laid-all 64 (link_from a.capacity.now) a.links a.out.now a.from z.left z.at z.out (omega arith) z.invariant
+    laid_all 64 (link_from a.capacity.now) a.links a.out.now a.from z.left z.at z.out (omega arith) z.invariant
 
-pub put_links_spec : {M : Type 1} → statement M
-put_links_spec =
+pub put-links-spec : {M : Type 1} → statement M
+put-links-spec =
     tie.close
     (tie.spec
     invariant-loop

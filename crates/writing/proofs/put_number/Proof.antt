@@ -65,8 +65,8 @@ returns c =
     let three : suc (suc (suc at)) ≡ at + 3 = omega arith in
     rw (three, two, one) refl
 
-pub put_number_spec : {M : Type 1} → statement M
-put_number_spec =
+pub put-number-spec : {M : Type 1} → statement M
+put-number-spec =
     tie.close
     (tie.spec
     cast-out

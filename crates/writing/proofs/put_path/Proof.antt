@@ -71,8 +71,8 @@ returns c =
     let all : z.h ≡ 8 = omega arith in
     z.invariant.1 ∙ ap (λ (k : ℕ). sets a.out.now a.at (values 0 k (byte_at a.path.now a.t))) all
 
-pub put_path_spec : {M : Type 1} → statement M
-put_path_spec =
+pub put-path-spec : {M : Type 1} → statement M
+put-path-spec =
     tie.close
     (tie.spec
     invariant-loop

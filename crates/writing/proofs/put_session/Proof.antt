@@ -9,7 +9,7 @@ use native.Mathlib.Omega.{arith}
 use Rattle.fairness.specs.Figure1.{values}
 use Rattle.search.specs.Crossing.{byte_at}
 use Rattle.writing.specs.Writing.{bytes4, path_size}
-use Rattle.writing.proofs.Laying.{first-long, second-long, session-laid, third-long}
+use Rattle.writing.proofs.Laying.{first_long, second_long, session_laid, third_long}
 use borrow.Author.Rules.{rules}
 use Rattle.writing.proofs.put_session.Statement.{statement}
 use Rattle.writing.proofs.put_session.Tie as tie
@@ -33,7 +33,7 @@ put-number-requires : tie.Need-put-number-requires
 put-number-requires c κs =
     let a = c.before.before.args in
     let p = c.before.before.requires in
-    (omega (arith, p.0, first-long a.out.now a.at a.t a.access a.maximum 0 (λ h. 0)), p.2)
+    (omega (arith, p.0, first_long a.out.now a.at a.t a.access a.maximum 0 (λ h. 0)), p.2)
 
 add-put-number-2 : tie.Need-overflow-add-put-number-2
 add-put-number-2 c = search rules
@@ -42,7 +42,7 @@ put-number-requires-2 : tie.Need-put-number-requires-2
 put-number-requires-2 c κs =
     let a = c.before.before.before.before.before.before.args in
     let p = c.before.before.before.before.before.before.requires in
-    (omega (arith, p.0, ap length c.before.before.before.put-number.ensures, second-long a.out.now a.at a.t a.access a.maximum 0 (λ h. 0)), p.3)
+    (omega (arith, p.0, ap length c.before.before.before.put-number.ensures, second_long a.out.now a.at a.t a.access a.maximum 0 (λ h. 0)), p.3)
 
 path-size-requires : tie.Need-path-size-requires
 path-size-requires c κs = search rules
@@ -63,7 +63,7 @@ slice-write-out-3 c =
       arith,
       p.0,
       ap length (three ∙ ap (λ (l : List ℕ). sets l (a.at + 6) (bytes4 a.maximum)) two),
-      third-long a.out.now a.at a.t a.access a.maximum 0 (λ h. 0),
+      third_long a.out.now a.at a.t a.access a.maximum 0 (λ h. 0),
     )
 
 add-put-path : tie.Need-overflow-add-put-path
@@ -80,7 +80,7 @@ put-path-requires c κs =
         p.0,
         length-set c.before.before.before.before.put-number2.new.0 (a.at + 10) c.before.path_size_lem.result,
         ap length (three ∙ ap (λ (l : List ℕ). sets l (a.at + 6) (bytes4 a.maximum)) two),
-        third-long a.out.now a.at a.t a.access a.maximum 0 (λ h. 0),
+        third_long a.out.now a.at a.t a.access a.maximum 0 (λ h. 0),
       ),
       p.1,
     )
@@ -96,7 +96,7 @@ same_length c =
     ∙ length-sets (set l (a.at + 10) n) (a.at + 11) (values 0 8 (byte_at a.path.now a.t))
     ∙ length-set l (a.at + 10) n
     ∙ ap length (three ∙ ap (λ (y : List ℕ). sets y (a.at + 6) (bytes4 a.maximum)) two)
-    ∙ third-long a.out.now a.at a.t a.access a.maximum 0 (λ h. 0)
+    ∙ third_long a.out.now a.at a.t a.access a.maximum 0 (λ h. 0)
 
 returns : tie.Need-returns
 returns c =
@@ -109,10 +109,10 @@ returns c =
     ∙ ap₂ (λ (l : List ℕ) (n : ℕ). sets (set l (a.at + 10) n) (a.at + 11) (values 0 8 path))
     (three ∙ ap (λ (l : List ℕ). sets l (a.at + 6) (bytes4 a.maximum)) two)
     size
-    ∙ session-laid a.out.now a.at a.t a.access a.maximum (path_size a.path.now a.t) path
+    ∙ session_laid a.out.now a.at a.t a.access a.maximum (path_size a.path.now a.t) path
 
-pub put_session_spec : {M : Type 1} → statement M
-put_session_spec =
+pub put-session-spec : {M : Type 1} → statement M
+put-session-spec =
     tie.close
     (tie.spec
     slice-write-out

@@ -7,10 +7,10 @@ use lib.Seq.{length-sets}
 use native.Mathlib.Omega.{arith}
 use Rattle.sessions.specs.Set.{has}
 use Rattle.sessions.proofs.Counts.{count_most}
-use Rattle.sessions.proofs.Walks.{below_low, next-below, next-has, next-less}
+use Rattle.sessions.proofs.Walks.{below_low, next_below, next_has, next_less}
 use Rattle.fairness.specs.Figure1.{values}
 use Rattle.writing.specs.Writing.{records_from, session_from}
-use Rattle.writing.proofs.LaidOut.{Laid, done, laid-all, laid-fits, laid_none, laid-turn}
+use Rattle.writing.proofs.LaidOut.{Laid, done, laid_all, laid_fits, laid_none, laid_turn}
 use Rattle.writing.proofs.Lengths.{sessions_long}
 use Rattle.writing.proofs.put_sessions.Statement.{statement}
 use Rattle.writing.proofs.put_sessions.Tie as tie
@@ -23,10 +23,10 @@ decreases-loop out₀ from sessions access maximum path at₀ left₀ out at lef
 
 -- the next session, which is the lowest that is left
 low : (c : tie.After-next invariant-loop decreases-loop) → c.next.result < 32
-low c = let z = c.before.before.loop in next-below 32 z.left c.next.result (omega arith) z.invariant.word c.next.ensures
+low c = let z = c.before.before.loop in next_below 32 z.left c.next.result (omega arith) z.invariant.word c.next.ensures
 
 here : (c : tie.After-next invariant-loop decreases-loop) → has c.next.result c.before.before.loop.left ≡ 1
-here c = let z = c.before.before.loop in next-has 32 z.left c.next.result (omega arith) z.invariant.word c.next.ensures
+here c = let z = c.before.before.loop in next_has 32 z.left c.next.result (omega arith) z.invariant.word c.next.ensures
 
 lowest : (c : tie.After-next invariant-loop decreases-loop) (i : ℕ) → i < c.next.result → has i c.before.before.loop.left ≡ 0
 lowest c i h = below_low 32 c.before.before.loop.left i (omega (arith, h, c.next.ensures))
@@ -62,7 +62,7 @@ put-session-requires c κs =
       omega (
         arith,
         p.1,
-        laid-fits 32 (session_from a.access.now a.maximum.now a.path.now) a.sessions a.out.now a.from z.left z.at z.out z.invariant n.next.result (low n) (here n) (lowest n),
+        laid_fits 32 (session_from a.access.now a.maximum.now a.path.now) a.sessions a.out.now a.from z.left z.at z.out z.invariant n.next.result (low n) (here n) (lowest n),
         ap length z.invariant.bytes,
         length-sets a.out.now a.from (records_from 32 0 (done a.sessions z.left) (session_from a.access.now a.maximum.now a.path.now)),
       ),
@@ -80,7 +80,7 @@ add_at c =
     omega (
       arith,
       c.before.before.before.before.before.before.before.before.before.before.requires.0,
-      laid-fits 32 (session_from a.access.now a.maximum.now a.path.now) a.sessions a.out.now a.from z.left z.at z.out z.invariant n.next.result (low n) (here n) (lowest n),
+      laid_fits 32 (session_from a.access.now a.maximum.now a.path.now) a.sessions a.out.now a.from z.left z.at z.out z.invariant n.next.result (low n) (here n) (lowest n),
       sessions_long a.sessions a.access.now a.maximum.now a.path.now,
       count_most 32 a.sessions,
     )
@@ -92,7 +92,7 @@ loop-less : tie.Need-loop-smaller invariant-loop decreases-loop
 loop-less c =
     let z = c.before.before.before.before.before.before.before.before.before.loop in
     let n = c.before.before.before.before.before.before.before.next in
-    next-less 32 z.left n.result (omega arith) z.invariant.word n.ensures c.cut.result c.cut.ensures
+    next_less 32 z.left n.result (omega arith) z.invariant.word n.ensures c.cut.result c.cut.ensures
 
 loop-again : tie.Need-loop-preserved invariant-loop decreases-loop
 unfolding values
@@ -100,7 +100,7 @@ loop-again c =
     let a = c.before.before.before.before.before.before.before.before.before.before.before.args in
     let z = c.before.before.before.before.before.before.before.before.before.loop in
     let n = c.before.before.before.before.before.before.before in
-    laid-turn 32 (session_from a.access.now a.maximum.now a.path.now) a.sessions a.out.now a.from z.left z.at z.out z.invariant n.next.result (low n) (here n) (lowest n)
+    laid_turn 32 (session_from a.access.now a.maximum.now a.path.now) a.sessions a.out.now a.from z.left z.at z.out z.invariant n.next.result (low n) (here n) (lowest n)
     c.cut.result c.cut.ensures _ c.before.before.before.put-session.ensures
 
 same_length : tie.Need-same-length invariant-loop decreases-loop
@@ -113,10 +113,10 @@ returns : tie.Need-returns invariant-loop decreases-loop
 returns c =
     let a = c.before.before.before.args in
     let z = c.before.loop in
-    laid-all 32 (session_from a.access.now a.maximum.now a.path.now) a.sessions a.out.now a.from z.left z.at z.out (omega arith) z.invariant
+    laid_all 32 (session_from a.access.now a.maximum.now a.path.now) a.sessions a.out.now a.from z.left z.at z.out (omega arith) z.invariant
 
-pub put_sessions_spec : {M : Type 1} → statement M
-put_sessions_spec =
+pub put-sessions-spec : {M : Type 1} → statement M
+put-sessions-spec =
     tie.close
     (tie.spec
     invariant-loop

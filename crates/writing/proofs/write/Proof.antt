@@ -10,7 +10,7 @@ use Rattle.sessions.proofs.Counts.{count_most}
 use Rattle.writing.specs.declared.Wrote.TheVariants as wrote
 use Rattle.writing.specs.Writing.{link_records, records_of, session_records}
 use Rattle.writing.specs.Written.{Written}
-use Rattle.writing.proofs.Lengths.{links_long, output-long, sessions_long}
+use Rattle.writing.proofs.Lengths.{links_long, output_long, sessions_long}
 use Rattle.writing.proofs.Whole.{both, enough, too_short}
 use borrow.Author.Rules.{rules}
 use Rattle.writing.proofs.write.Statement.{statement}
@@ -41,7 +41,7 @@ returns : tie.Need-returns
 returns c =
     let a = c.before.before.before.before.args in
     let short =
-    too_short a.t1 a.out.now (omega (arith, c.if1.true, c.before.size.ensures, c.before.before.size-links.ensures, output-long a.t1)) in
+    too_short a.t1 a.out.now (omega (arith, c.if1.true, c.before.size.ensures, c.before.before.size-links.ensures, output_long a.t1)) in
     (ap (λ (o : Written). o.answer) (sym short), ap (λ (o : Written). o.bytes) (sym short))
 
 put-links-requires : tie.Need-put-links-requires
@@ -82,9 +82,9 @@ returns-2 c =
     let a = c.before.before.before.before.before.before.before.before.before.before.before.before.before.before.before.before.before.before.args in
     let links = c.before.before.before.before.before.before.before.before.before.before.before.before.before.before.before.before.size-links.ensures in
     let sessions = c.before.before.before.before.before.before.before.before.before.before.before.before.before.before.before.size.ensures in
-    let fits : length (records_of a.t1) ≤ length a.out.now = omega (arith, c.before.before.before.before.before.before.before.before.before.before.before.before.before.before.if1.false, links, sessions, output-long a.t1) in
+    let fits : length (records_of a.t1) ≤ length a.out.now = omega (arith, c.before.before.before.before.before.before.before.before.before.before.before.before.before.before.if1.false, links, sessions, output_long a.t1) in
     let whole = enough a.t1 a.out.now fits in (
-      ap wrote.Bytes (omega (arith, links, sessions, output-long a.t1)) ∙ ap (λ (o : Written). o.answer) (sym whole),
+      ap wrote.Bytes (omega (arith, links, sessions, output_long a.t1)) ∙ ap (λ (o : Written). o.answer) (sym whole),
       c.before.before.put-sessions.ensures
           ∙ ap₂ (λ (l : List ℕ) (k : ℕ). sets l k (session_records a.t1.sessions a.t1.access a.t1.maximum a.t1.path))
           c.before.before.before.before.before.before.before.before.before.before.put-links.ensures

@@ -42,8 +42,8 @@ loop-again c = omega arith
 returns : tie.Need-returns invariant-loop decreases-loop
 returns c = search rules
 
-pub sessions_spec : {M : Type 1} → statement M
-sessions_spec =
+pub sessions-spec : {M : Type 1} → statement M
+sessions-spec =
     tie.close
     (tie.spec
     invariant-loop

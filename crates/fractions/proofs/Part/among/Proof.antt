@@ -12,5 +12,5 @@ mul-t5 c = omega (arith, mul-le-mul c.requires.0 c.requires.1)
 returns : tie.Need-returns
 returns c = search rules
 
-pub among_spec : {M : Type 1} → statement M
-among_spec = tie.close (tie.spec mul-t5 returns)
+pub among-spec : {M : Type 1} → statement M
+among-spec = tie.close (tie.spec mul-t5 returns)

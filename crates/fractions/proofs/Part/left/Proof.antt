@@ -15,5 +15,5 @@ sub-t6 c = search rules
 returns : tie.Need-returns
 returns c = search rules
 
-pub left_spec : {M : Type 1} → statement M
-left_spec = tie.close (tie.spec mul-all sub-t6 returns)
+pub left-spec : {M : Type 1} → statement M
+left-spec = tie.close (tie.spec mul-all sub-t6 returns)

@@ -36,5 +36,5 @@ returns-4 c = let a = c.before.before.before.before.args.self in
     ap (λ g. eqb g 1) (gcd_unique c.gcd.ensures)
     ∙ simp (lt-ltb 0 a.den (omega arith), le-leb a.den max_den (omega arith), le-leb a.num _ c.before.if3.false)
 
-pub is_rate_spec : {M : Type 1} → statement M
-is_rate_spec = tie.close (tie.spec returns returns-2 mul_most returns-3 gcd-requires returns-4)
+pub is-rate-spec : {M : Type 1} → statement M
+is-rate-spec = tie.close (tie.spec returns returns-2 mul_most returns-3 gcd-requires returns-4)

@@ -29,5 +29,5 @@ unfolding kept_of sized_of
 returns-4 c = let a = c.before.before.before.args in
     simp (lt-ltb 0 a.d (omega arith), le-leb a.d max_den (omega arith), le-leb a.n _ c.if3.false)
 
-pub kept_spec : {M : Type 1} → statement M
-kept_spec = tie.close (tie.spec returns returns-2 mul-if3 returns-3 returns-4)
+pub kept-spec : {M : Type 1} → statement M
+kept-spec = tie.close (tie.spec returns returns-2 mul-if3 returns-3 returns-4)

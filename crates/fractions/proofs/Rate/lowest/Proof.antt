@@ -22,5 +22,5 @@ returns : tie.Need-returns
 unfolding lowest_of
 returns c = ap (λ (g : ℕ). frac (c.before.args.n / g) (c.before.args.d / g)) (gcd_unique c.gcd.ensures)
 
-pub lowest_spec : {M : Type 1} → statement M
-lowest_spec = tie.close (tie.spec gcd-requires div-t4 div-t5 returns)
+pub lowest-spec : {M : Type 1} → statement M
+lowest-spec = tie.close (tie.spec gcd-requires div-t4 div-t5 returns)

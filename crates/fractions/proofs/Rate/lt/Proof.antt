@@ -15,5 +15,5 @@ mul_right c = omega (arith, cross_fits c.requires.1 c.requires.0)
 returns : tie.Need-returns
 returns c = search rules
 
-pub lt_spec : {M : Type 1} → statement M
-lt_spec = tie.close (tie.spec mul_left mul_right returns)
+pub lt-spec : {M : Type 1} → statement M
+lt-spec = tie.close (tie.spec mul_left mul_right returns)

@@ -44,8 +44,8 @@ unfolding plus_of
 returns-2 c = let e = added c.before.before in
     said_too sum_said (rw (sym (ap fine_of e) ∙ (sym c.before.is-fine.ensures ∙ c.if1.false)))
 
-pub plus_spec : {M : Type 1} → statement M
-plus_spec =
+pub plus-spec : {M : Type 1} → statement M
+plus-spec =
     tie.close
     (tie.spec
     mul_left

@@ -45,7 +45,7 @@ unfolding share_of each_of
 returns-2 c = let e = each c.before.before in
     said_too share_said (rw (sym (ap fine_of e) ∙ (sym c.before.is-fine.ensures ∙ c.if1.false)))
 
-pub share_spec : {M : Type 1} → statement M
-share_spec =
+pub share-spec : {M : Type 1} → statement M
+share-spec =
     tie.close
     (tie.spec left-requires among-requires lowest-requires is-fine-requires returns returns-2)

@@ -13,5 +13,5 @@ returns c = rw (← c.before.le.ensures, c.if1.true)
 returns-2 : tie.Need-returns-2
 returns-2 c = rw (← c.before.le.ensures, c.if1.false)
 
-pub higher_spec : {M : Type 1} → statement M
-higher_spec = tie.close (tie.spec le-requires returns returns-2)
+pub higher-spec : {M : Type 1} → statement M
+higher-spec = tie.close (tie.spec le-requires returns returns-2)

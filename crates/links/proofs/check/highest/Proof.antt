@@ -4,7 +4,7 @@ use mathlib.Core.Path.{◌≡◌, refl, sym, subst, ◌∙◌}
 use native.Mathlib.Omega.{arith}
 use Prim.Native.Nat.{◌^◌, ◌<◌}
 use Rattle.sessions.specs.Set.{members, walk}
-use Rattle.sessions.proofs.Walks.{next-below, next-less, walk_end, walk_turn}
+use Rattle.sessions.proofs.Walks.{next_below, next_less, walk_end, walk_turn}
 use Rattle.fractions.specs.Fraction.{Sized, max_rate}
 use Rattle.fractions.proofs.Ranges.{whole_sized}
 use Rattle.links.specs.FCheck.{higher_of, highest_of}
@@ -22,11 +22,11 @@ abbrev decreases-loop : tie.decreases-loop
 decreases-loop p m₀ left₀ m left = left
 
 below : (c : tie.After-next invariant-loop decreases-loop) → c.next.result < 32
-below c = next-below 32 c.before.before.loop.left c.next.result (omega arith) c.before.before.loop.invariant.0 c.next.ensures
+below c = next_below 32 c.before.before.loop.left c.next.result (omega arith) c.before.before.loop.invariant.0 c.next.ensures
 
 less : (c : tie.After-cut invariant-loop decreases-loop) → c.cut.result < c.before.before.before.before.before.loop.left
 less c =
-    next-less 32 c.before.before.before.before.before.loop.left c.before.before.before.next.result (omega arith) c.before.before.before.before.before.loop.invariant.0 c.before.before.before.next.ensures c.cut.result
+    next_less 32 c.before.before.before.before.before.loop.left c.before.before.before.next.result (omega arith) c.before.before.before.before.before.loop.invariant.0 c.before.before.before.next.ensures c.cut.result
     c.cut.ensures
 
 zero-requires : tie.Need-zero-requires invariant-loop decreases-loop
@@ -68,8 +68,8 @@ loop-again c = (
 returns : tie.Need-returns invariant-loop decreases-loop
 returns c = sym (walk_end _ 32 c.before.loop.m c.before.loop.left c.loop-test.false) ∙ c.before.loop.invariant.2
 
-pub highest_spec : {M : Type 1} → statement M
-highest_spec =
+pub highest-spec : {M : Type 1} → statement M
+highest-spec =
     tie.close
     (tie.spec
     invariant-loop

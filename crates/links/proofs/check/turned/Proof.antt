@@ -24,7 +24,7 @@ returns : tie.Need-returns
 unfolding turn_of
 returns c = rw (← c.before.before.before.before.highest.ensures, ← c.before.before.before.those.ensures, ← c.before.before.those2.ensures) c.with-words.ensures
 
-pub turned_spec : {M : Type 1} → statement M
-turned_spec =
+pub turned-spec : {M : Type 1} → statement M
+turned-spec =
     tie.close
     (tie.spec highest-requires those-requires those-requires-2 with-words-requires returns)

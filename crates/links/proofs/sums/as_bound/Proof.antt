@@ -16,5 +16,5 @@ returns c = rw c.before.share.given.1
 returns-2 : tie.Need-returns-2
 returns-2 c = search rules
 
-pub as_bound_spec : {M : Type 1} → statement M
-as_bound_spec = tie.close (tie.spec enum-known-share enum_told returns returns-2)
+pub as-bound-spec : {M : Type 1} → statement M
+as-bound-spec = tie.close (tie.spec enum-known-share enum_told returns returns-2)

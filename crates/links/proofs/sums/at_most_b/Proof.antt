@@ -28,6 +28,6 @@ returns-2 c = search rules
 returns-3 : tie.Need-returns-3
 returns-3 c = search rules
 
-pub at_most_b_spec : {M : Type 1} → statement M
-at_most_b_spec =
+pub at-most-b-spec : {M : Type 1} → statement M
+at-most-b-spec =
     tie.close (tie.spec enum-known-b le-requires enum_told enum-told-2 returns returns-2 returns-3)

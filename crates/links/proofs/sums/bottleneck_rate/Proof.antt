@@ -23,6 +23,6 @@ returns : tie.Need-returns
 unfolding B
 returns c = said_too bound_said (rw (← c.before.before.sum-of-f.ensures.0, ← c.before.size.ensures) c.bound-from.ensures.0)
 
-pub bottleneck_rate_spec : {M : Type 1} → statement M
-bottleneck_rate_spec =
+pub bottleneck-rate-spec : {M : Type 1} → statement M
+bottleneck-rate-spec =
     tie.close (tie.spec sum-of-f-requires size-requires bound-from-requires returns)

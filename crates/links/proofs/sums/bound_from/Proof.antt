@@ -6,7 +6,7 @@ use Prim.Native.Nat.{suc}
 use Rattle.fractions.proofs.Cases.{said_too}
 use Rattle.fractions.proofs.Ranges.{sized_more}
 use Rattle.links.specs.Links.{TotalSized, as_bound, bound_of, bound_said}
-use Rattle.links.proofs.Bounds.{bound-none, bound_past, bound-past-none, bound_some}
+use Rattle.links.proofs.Bounds.{bound_none, bound_past, bound_past_none, bound_some}
 use Rattle.links.specs.declared.Bound.TheVariants as bound
 use borrow.Author.Rules.{rules}
 use Rattle.links.proofs.sums.bound_from.Statement.{statement}
@@ -31,7 +31,7 @@ zero-requires : tie.Need-zero-requires
 zero-requires c κs = search rules
 
 returns : tie.Need-returns
-returns c = said_too bound_said (rw c.before.before.total.given.1 (sym (bound-none _ _ _ c.if1.true)))
+returns c = said_too bound_said (rw c.before.before.total.given.1 (sym (bound_none _ _ _ c.if1.true)))
 
 returns-2 : tie.Need-returns-2
 returns-2 c = said_too bound_said (rw c.before.before.before.before.total.given.1 (c.as-bound.ensures ∙ (ap as_bound c.before.share.ensures.0 ∙ sym (bound_some _ _ _ (omega arith)))))
@@ -41,13 +41,13 @@ unfolding bound_of
 returns-3 c = rw c.enum_told.given.1 (refl, refl)
 
 returns-4 : tie.Need-returns-4
-returns-4 c = said_too bound_said (rw c.before.enum-told2.given.1 (sym (bound-past-none _ _ c.if2.true)))
+returns-4 c = said_too bound_said (rw c.before.enum-told2.given.1 (sym (bound_past_none _ _ c.if2.true)))
 
 returns-5 : tie.Need-returns-5
 returns-5 c = said_too bound_said (rw c.before.before.enum-told2.given.1 (ap bound.At c.zero.ensures ∙ sym (bound_past _ _ (omega arith))))
 
-pub bound_from_spec : {M : Type 1} → statement M
-bound_from_spec =
+pub bound-from-spec : {M : Type 1} → statement M
+bound-from-spec =
     tie.close
     (tie.spec
     enum-known-total

@@ -28,7 +28,7 @@ returns-2 c = search rules
 returns-3 : tie.Need-returns-3
 returns-3 c = search rules
 
-pub equals_b_spec : {M : Type 1} → statement M
-equals_b_spec =
+pub equals-b-spec : {M : Type 1} → statement M
+equals-b-spec =
     tie.close
     (tie.spec enum-known-b same-requires enum_told enum-told-2 returns returns-2 returns-3)

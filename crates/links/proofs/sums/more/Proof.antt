@@ -36,8 +36,8 @@ returns-3 : tie.Need-returns-3
 unfolding more_of
 returns-3 c = rw c.enum-told2.given.1 (refl, refl)
 
-pub more_spec : {M : Type 1} → statement M
-more_spec =
+pub more-spec : {M : Type 1} → statement M
+more-spec =
     tie.close
     (tie.spec
     enum-known-total

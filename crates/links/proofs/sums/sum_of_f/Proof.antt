@@ -8,7 +8,7 @@ use Prim.Native.Nat.{◌^◌, ◌<◌}
 use lib.Dec.{lit≤}
 use Rattle.fractions.proofs.Ranges.{whole_sized}
 use Rattle.sessions.specs.Set.{members, walk}
-use Rattle.sessions.proofs.Walks.{next-below, next-less, walk_end, walk_turn}
+use Rattle.sessions.proofs.Walks.{next_below, next_less, walk_end, walk_turn}
 use Rattle.fractions.proofs.Cases.{said_too}
 use Rattle.links.specs.Links.{TotalSized, more_of, rate_at, sum_of, total_said}
 use Rattle.links.proofs.Sizes.{more_sized}
@@ -23,11 +23,11 @@ abbrev decreases-loop : tie.decreases-loop
 decreases-loop p capacity total₀ left₀ total left = left
 
 below : (c : tie.After-next invariant-loop decreases-loop) → c.next.result < 32
-below c = next-below 32 c.before.before.loop.left c.next.result (omega arith) c.before.before.loop.invariant.0 c.next.ensures
+below c = next_below 32 c.before.before.loop.left c.next.result (omega arith) c.before.before.loop.invariant.0 c.next.ensures
 
 less : (c : tie.After-cut invariant-loop decreases-loop) → c.cut.result < c.before.before.before.before.before.loop.left
 less c =
-    next-less 32 c.before.before.before.before.before.loop.left c.before.before.before.next.result (omega arith) c.before.before.before.before.before.loop.invariant.0 c.before.before.before.next.ensures c.cut.result
+    next_less 32 c.before.before.before.before.before.loop.left c.before.before.before.next.result (omega arith) c.before.before.before.before.before.loop.invariant.0 c.before.before.before.next.ensures c.cut.result
     c.cut.ensures
 
 zero-requires : tie.Need-zero-requires invariant-loop decreases-loop
@@ -69,8 +69,8 @@ loop-again c = (
 returns : tie.Need-returns invariant-loop decreases-loop
 returns c = said_too total_said (sym (walk_end _ 32 c.before.loop.total c.before.loop.left c.loop-test.false) ∙ c.before.loop.invariant.2)
 
-pub sum_of_f_spec : {M : Type 1} → statement M
-sum_of_f_spec =
+pub sum-of-f-spec : {M : Type 1} → statement M
+sum-of-f-spec =
     tie.close
     (tie.spec
     invariant-loop

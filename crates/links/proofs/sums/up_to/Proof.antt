@@ -38,7 +38,7 @@ returns-3 : tie.Need-returns-3
 unfolding upto_of
 returns-3 c = rw c.enum_told.given.1
 
-pub up_to_spec : {M : Type 1} → statement M
-up_to_spec =
+pub up-to-spec : {M : Type 1} → statement M
+up-to-spec =
     tie.close
     (tie.spec enum-known-sum whole-requires le-requires enum_told returns returns-2 returns-3)

@@ -48,8 +48,8 @@ returns-2 : tie.Need-returns-2 invariant-loop decreases-loop
 returns-2 c = let e : c.before.loop.g ≡ c.before.before.args.n = omega arith in
     sym (ap (λ g. is_new c.before.before.args.s.now c.before.before.args.at g c.before.before.args.link) (sym e) ∙ c.before.loop.invariant.1)
 
-pub is_new_spec : {M : Type 1} → statement M
-is_new_spec =
+pub is-new-spec : {M : Type 1} → statement M
+is-new-spec =
     tie.close
     (tie.spec
     invariant-loop

@@ -52,8 +52,8 @@ returns-2 c =
     let e : c.before.loop.h ≡ a.n = omega arith in
     sym (ap (differ a.s.now a.at) (sym e) ∙ c.before.loop.invariant.1)
 
-pub links_differ_spec : {M : Type 1} → statement M
-links_differ_spec =
+pub links-differ-spec : {M : Type 1} → statement M
+links-differ-spec =
     tie.close
     (tie.spec
     invariant-loop

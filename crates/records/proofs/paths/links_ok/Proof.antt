@@ -48,8 +48,8 @@ returns-2 : tie.Need-returns-2 invariant-loop decreases-loop
 returns-2 c = let e : c.before.loop.h ≡ c.before.before.args.n = omega arith in
     sym (ap (links_ok c.before.before.args.s.now c.before.before.args.at) (sym e) ∙ c.before.loop.invariant.1)
 
-pub links_ok_spec : {M : Type 1} → statement M
-links_ok_spec =
+pub links-ok-spec : {M : Type 1} → statement M
+links-ok-spec =
     tie.close
     (tie.spec
     invariant-loop

@@ -44,8 +44,8 @@ returns-5 c = let d = sym c.before.before.before.before.links-ok.ensures ∙ not
     let e = sym c.before.before.links-differ.ensures ∙ not-false _ c.before.if4.false in
     c.rest_ok.ensures ∙ simp (lt-ltb 0 c.before.before.before.before.before.before.before.before.args.n (omega arith), le-leb _ _ c.before.before.before.before.before.if2.false, d, e)
 
-pub path_ok_spec : {M : Type 1} → statement M
-path_ok_spec =
+pub path-ok-spec : {M : Type 1} → statement M
+path-ok-spec =
     tie.close
     (tie.spec
     returns

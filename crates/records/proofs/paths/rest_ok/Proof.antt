@@ -53,8 +53,8 @@ returns-2 c = let a = c.before.before.args in
     let e : c.before.loop.h ≡ 8 = omega arith in
     sym (ap (λ k. all k (λ i. ltb i a.n || eqb (get_or a.s.now (a.at + i) 0) 255)) (sym e) ∙ c.before.loop.invariant.2)
 
-pub rest_ok_spec : {M : Type 1} → statement M
-rest_ok_spec =
+pub rest-ok-spec : {M : Type 1} → statement M
+rest-ok-spec =
     tie.close
     (tie.spec
     invariant-loop

@@ -50,8 +50,8 @@ returns-5 c = (sym (ap body_of c.match.keys5), omega arith)
 returns-6 : tie.Need-returns-6
 returns-6 c = (sym (body_none _ c.match.rest.0.0.0.0.1 c.match.rest.0.0.0.1 c.match.rest.0.0.1 c.match.rest.0.1 c.match.rest.1), omega arith)
 
-pub body_spec : {M : Type 1} → statement M
-body_spec =
+pub body-spec : {M : Type 1} → statement M
+body-spec =
     tie.close
     (tie.spec
     array-read-result

@@ -65,8 +65,8 @@ returns-5 c = let a = c.before.before.before.args in
     let k : get_or a.s.now a.at 0 ≡ 5 = sym c.before.before.before.requires.2 ∙ last_kind _ c.before.before.before.requires.0 c.before.before.before.requires.1 c.before.match.rest.0.0.0.1 c.before.match.rest.0.0.1 c.before.match.rest.0.1 c.before.match.rest.1 in
     rw k c.deliver-at.ensures
 
-pub body_at_spec : {M : Type 1} → statement M
-body_at_spec =
+pub body-at-spec : {M : Type 1} → statement M
+body-at-spec =
     tie.close
     (tie.spec
     link-at-requires

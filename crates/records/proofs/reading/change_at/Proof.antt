@@ -33,8 +33,8 @@ returns-3 : tie.Need-returns-3
 unfolding change_at
 returns-3 c = simp (← c.before.before.number4.ensures, lt-ltb _ _ c.before.if1.false, le-leb _ _ c.if2.false)
 
-pub change_at_spec : {M : Type 1} → statement M
-change_at_spec =
+pub change-at-spec : {M : Type 1} → statement M
+change-at-spec =
     tie.close
     (tie.spec
     add-session

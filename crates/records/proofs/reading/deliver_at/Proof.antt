@@ -19,5 +19,5 @@ returns : tie.Need-returns
 unfolding deliver_at
 returns c = ap (λ (n : ℕ). read.Record (rec.Deliver n)) c.number2.ensures.0
 
-pub deliver_at_spec : {M : Type 1} → statement M
-deliver_at_spec = tie.close (tie.spec add-number2 number2-requires returns)
+pub deliver-at-spec : {M : Type 1} → statement M
+deliver-at-spec = tie.close (tie.spec add-number2 number2-requires returns)

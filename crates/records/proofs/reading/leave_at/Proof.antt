@@ -23,6 +23,6 @@ returns-2 : tie.Need-returns-2
 unfolding leave_at
 returns-2 c = simp (lt-ltb _ _ c.if1.false)
 
-pub leave_at_spec : {M : Type 1} → statement M
-leave_at_spec =
+pub leave-at-spec : {M : Type 1} → statement M
+leave-at-spec =
     tie.close (tie.spec add-session shared-slice-read-session returns cast-t9 returns-2)

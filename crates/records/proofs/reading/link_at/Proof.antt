@@ -41,8 +41,8 @@ unfolding link_at
 returns-3 c = let e = sym c.before.rate-ok.ensures ∙ not-false _ c.if2.false in
     simp (← c.before.before.before.number4.ensures, lt-ltb _ _ c.before.before.if1.false, e)
 
-pub link_at_spec : {M : Type 1} → statement M
-link_at_spec =
+pub link-at-spec : {M : Type 1} → statement M
+link-at-spec =
     tie.close
     (tie.spec
     add-link

@@ -31,8 +31,8 @@ returns : tie.Need-returns
 unfolding be2
 returns c = ((cc), omega (arith, c.wide2.ensures, c.before.before.wide.ensures))
 
-pub number2_spec : {M : Type 1} → statement M
-number2_spec =
+pub number2-spec : {M : Type 1} → statement M
+number2-spec =
     tie.close
     (tie.spec
     shared-slice-read-wide

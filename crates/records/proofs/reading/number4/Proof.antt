@@ -60,8 +60,8 @@ returns : tie.Need-returns
 unfolding be4
 returns c = cc
 
-pub number4_spec : {M : Type 1} → statement M
-number4_spec =
+pub number4-spec : {M : Type 1} → statement M
+number4-spec =
     tie.close
     (tie.spec
     shared-slice-read-wide

@@ -10,5 +10,5 @@ returns c = simp (lt-ltb _ _ c.if1.true)
 returns-2 : tie.Need-returns-2
 returns-2 c = simp (le-ltb _ _ c.if1.false)
 
-pub rate_ok_spec : {M : Type 1} → statement M
-rate_ok_spec = tie.close (tie.spec returns returns-2)
+pub rate-ok-spec : {M : Type 1} → statement M
+rate-ok-spec = tie.close (tie.spec returns returns-2)

@@ -9,13 +9,13 @@ use borrow.Author.Tests.{le-leb, lt-leb}
 use Rattle.records.specs.Format.{body_of, read_at, size_at}
 use Rattle.fractions.proofs.Cases.{not_true, not-false, said_too}
 use Rattle.records.specs.Run.{read_number}
-use Rattle.records.proofs.PastEnd.{read-past-end}
+use Rattle.records.proofs.PastEnd.{read_past_end}
 use Rattle.records.proofs.TakenKinds.{taken_kind}
 use Rattle.records.proofs.reading.read_at.Statement.{statement}
 use Rattle.records.proofs.reading.read_at.Tie as tie
 
 returns : tie.Need-returns
-returns c = said_too read_number (sym (read-past-end _ _ c.if1.true _))
+returns c = said_too read_number (sym (read_past_end _ _ c.if1.true _))
 
 shared-slice-read-kind : tie.Need-shared-slice-read-kind
 shared-slice-read-kind c = search rules
@@ -56,8 +56,8 @@ returns-4 c = let a = c.before.before.before.before.before.before.before.before.
     said_too read_number
     (c.body_at.ensures ∙ simp (e, le-leb (a.at + (1 + body_of (get_or a.s.now a.at 0))) (length a.s.now) (omega (arith, c.before.before.body.ensures))))
 
-pub read_at_spec : {M : Type 1} → statement M
-read_at_spec =
+pub read-at-spec : {M : Type 1} → statement M
+read-at-spec =
     tie.close
     (tie.spec
     returns

@@ -76,8 +76,8 @@ returns-5 c = let a = c.before.before.before.before.before.before.before.before.
     let e = sym c.before.before.before.before.rate-ok.ensures ∙ not-false _ c.before.before.before.if2.false in
     simp (← c.before.before.before.before.before.before.before.before.before.number4.ensures, ← c.before.before.before.before.before.before.before.before.number42.ensures, lt-ltb _ _ c.before.before.before.before.before.if1.false, e, le-leb _ _ c.before.before.if3.false, p, c.before.before.before.before.before.before.wide.ensures.0)
 
-pub session_at_spec : {M : Type 1} → statement M
-session_at_spec =
+pub session-at-spec : {M : Type 1} → statement M
+session-at-spec =
     tie.close
     (tie.spec
     add-session

@@ -5,12 +5,12 @@ use mathlib.Core.Path.{ap, sym}
 use Prim.Native.Nat.{◌+◌, ◌-◌}
 use native.Mathlib.Omega.{arith}
 use Rattle.records.specs.Format.{size_at}
-use Rattle.records.proofs.PastEnd.{size-past-end}
+use Rattle.records.proofs.PastEnd.{size_past_end}
 use Rattle.records.proofs.reading.size_at.Statement.{statement}
 use Rattle.records.proofs.reading.size_at.Tie as tie
 
 returns : tie.Need-returns
-returns c = (sym (size-past-end _ _ c.if1.true), omega arith, omega arith)
+returns c = (sym (size_past_end _ _ c.if1.true), omega arith, omega arith)
 
 shared-slice-read-body : tie.Need-shared-slice-read-body
 shared-slice-read-body c = search rules
@@ -25,5 +25,5 @@ returns-2 : tie.Need-returns-2
 unfolding size_at
 returns-2 c = (ap (λ n. 1 + n) c.body.ensures.0, omega arith, omega (arith, c.body.ensures))
 
-pub size_at_spec : {M : Type 1} → statement M
-size_at_spec = tie.close (tie.spec returns shared-slice-read-body body-requires add-result returns-2)
+pub size-at-spec : {M : Type 1} → statement M
+size-at-spec = tie.close (tie.spec returns shared-slice-read-body body-requires add-result returns-2)

@@ -23,5 +23,5 @@ returns-3 c = simp (c.before.enum-told2.given.1, lt-ltb _ _ c.if2.true)
 returns-4 : tie.Need-returns-4
 returns-4 c = simp (c.before.enum-told2.given.1, le-ltb _ _ c.if2.false)
 
-pub takes_spec : {M : Type 1} → statement M
-takes_spec = tie.close (tie.spec enum_told enum-told-2 returns returns-2 returns-3 returns-4)
+pub takes-spec : {M : Type 1} → statement M
+takes-spec = tie.close (tie.spec enum_told enum-told-2 returns returns-2 returns-3 returns-4)

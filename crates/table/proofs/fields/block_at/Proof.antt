@@ -78,8 +78,8 @@ returns : tie.Need-returns
 unfolding block_at
 returns c = search rules
 
-pub block_at_spec : {M : Type 1} → statement M
-block_at_spec =
+pub block-at-spec : {M : Type 1} → statement M
+block-at-spec =
     tie.close
     (tie.spec
     mul-t3

@@ -20,5 +20,5 @@ returns-2 : tie.Need-returns-2
 unfolding eta_of
 returns-2 c = rw (ne_eqb _ _ c.before.if1.false, c.field.ensures.0)
 
-pub eta_of_spec : {M : Type 1} → statement M
-eta_of_spec = tie.close (tie.spec returns field-requires cast-t4 returns-2)
+pub eta-of-spec : {M : Type 1} → statement M
+eta-of-spec = tie.close (tie.spec returns field-requires cast-t4 returns-2)

@@ -14,5 +14,5 @@ returns-2 : tie.Need-returns-2
 unfolding field_of
 returns-2 c = (rw (lt-leb _ _ c.if1.false), omega arith)
 
-pub field_spec : {M : Type 1} → statement M
-field_spec = tie.close (tie.spec returns returns-2)
+pub field-spec : {M : Type 1} → statement M
+field-spec = tie.close (tie.spec returns returns-2)

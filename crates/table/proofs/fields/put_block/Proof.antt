@@ -103,8 +103,8 @@ returns : tie.Need-returns
 unfolding put_block
 returns c = refl
 
-pub put_block_spec : {M : Type 1} → statement M
-put_block_spec =
+pub put-block-spec : {M : Type 1} → statement M
+put-block-spec =
     tie.close
     (tie.spec
     array-read-t

@@ -17,5 +17,5 @@ returns-3 : tie.Need-returns-3
 unfolding tau_of
 returns-3 c = simp (ne_eqb _ _ c.match.rest.1, ne_eqb _ _ c.match.rest.0.1)
 
-pub tau_of_spec : {M : Type 1} → statement M
-tau_of_spec = tie.close (tie.spec returns returns-2 returns-3)
+pub tau-of-spec : {M : Type 1} → statement M
+tau-of-spec = tie.close (tie.spec returns returns-2 returns-3)

@@ -17,5 +17,5 @@ returns-2 : tie.Need-returns-2
 unfolding told_of
 returns-2 c = rw (ne_eqb _ _ c.if1.false)
 
-pub told_of_spec : {M : Type 1} → statement M
-told_of_spec = tie.close (tie.spec kept-requires returns returns-2)
+pub told-of-spec : {M : Type 1} → statement M
+told-of-spec = tie.close (tie.spec kept-requires returns returns-2)

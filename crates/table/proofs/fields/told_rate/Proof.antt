@@ -16,5 +16,5 @@ returns c = rw c.enum_told.given.1
 returns-2 : tie.Need-returns-2
 returns-2 c = rw c.before.x.given.1
 
-pub told_rate_spec : {M : Type 1} → statement M
-told_rate_spec = tie.close (tie.spec enum_told enum-known-x returns returns-2)
+pub told-rate-spec : {M : Type 1} → statement M
+told-rate-spec = tie.close (tie.spec enum_told enum-known-x returns returns-2)

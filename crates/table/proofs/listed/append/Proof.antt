@@ -26,8 +26,8 @@ returns-2 : tie.Need-returns-2
 unfolding appended
 returns-2 c = rw (← c.before.count.ensures, le-ltb _ _ c.if1.false)
 
-pub append_spec : {M : Type 1} → statement M
-append_spec =
+pub append-spec : {M : Type 1} → statement M
+append-spec =
     tie.close
     (tie.spec
     count-requires

@@ -61,8 +61,8 @@ returns-7 : tie.Need-returns-7
 unfolding kind_of
 returns-7 c = rw (ne_eqb _ _ c.match.rest.1, ne_eqb _ _ c.match.rest.0.1, ne_eqb _ _ c.match.rest.0.0.1, ne_eqb _ _ c.match.rest.0.0.0.1, ne_eqb _ _ c.match.rest.0.0.0.0.1, ne_eqb _ _ c.match.rest.0.0.0.0.0.1, c.before.before.eta-of.ensures, c.before.before.before.kept.ensures)
 
-pub kind_of_spec : {M : Type 1} → statement M
-kind_of_spec =
+pub kind-of-spec : {M : Type 1} → statement M
+kind-of-spec =
     tie.close
     (tie.spec
     array-read-code

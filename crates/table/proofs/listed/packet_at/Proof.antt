@@ -22,6 +22,6 @@ returns : tie.Need-returns
 unfolding packet_of
 returns c = c.packet-from.ensures ∙ ap packet_from c.before.block_at.ensures
 
-pub packet_at_spec : {M : Type 1} → statement M
-packet_at_spec =
+pub packet-at-spec : {M : Type 1} → statement M
+packet-at-spec =
     tie.close (tie.spec mul-block-at add-block-at block-at-requires packet-from-requires returns)

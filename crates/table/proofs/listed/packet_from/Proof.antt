@@ -33,8 +33,8 @@ returns : tie.Need-returns
 unfolding packet_from
 returns c = rw (c.before.before.field.ensures.0, c.before.field2.ensures.0, c.kind-of.ensures)
 
-pub packet_from_spec : {M : Type 1} → statement M
-packet_from_spec =
+pub packet-from-spec : {M : Type 1} → statement M
+packet-from-spec =
     tie.close
     (tie.spec
     array-read-field

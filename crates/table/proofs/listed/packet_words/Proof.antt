@@ -78,8 +78,8 @@ returns-7 : tie.Need-returns-7
 unfolding packet_words
 returns-7 c = rw (c.before.before.bit.ensures, c.enum-told3.given.1)
 
-pub packet_words_spec : {M : Type 1} → statement M
-packet_words_spec =
+pub packet-words-spec : {M : Type 1} → statement M
+packet-words-spec =
     tie.close
     (tie.spec
     cast-s

@@ -12,5 +12,5 @@ returns : tie.Need-returns
 unfolding put_count
 returns c = search rules
 
-pub put_count_spec : {M : Type 1} → statement M
-put_count_spec = tie.close (tie.spec element-write-t returns)
+pub put-count-spec : {M : Type 1} → statement M
+put-count-spec = tie.close (tie.spec element-write-t returns)

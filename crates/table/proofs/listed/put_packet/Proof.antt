@@ -22,7 +22,7 @@ returns : tie.Need-returns
 unfolding put_packet
 returns c = c.put-block.ensures ∙ ap (put_block _ _) c.before.before.packet-words.ensures
 
-pub put_packet_spec : {M : Type 1} → statement M
-put_packet_spec =
+pub put-packet-spec : {M : Type 1} → statement M
+put-packet-spec =
     tie.close
     (tie.spec packet-words-requires mul-put-block add-put-block put-block-requires returns)

@@ -81,8 +81,8 @@ returns c =
     let p : 7104 + (n - 1) * 8 - (7104 + i * 8) ≡ (n - 1 - i) * 8 = omega arith in
     rw (← c.before.before.before.before.count.ensures, ← p, ← l.invariant.3, move_end (7104 + (n - 1) * 8) l.j l.t c.before.before.loop-test.false) c.put_count.ensures
 
-pub remove_spec : {M : Type 1} → statement M
-remove_spec =
+pub remove-spec : {M : Type 1} → statement M
+remove-spec =
     tie.close
     (tie.spec
     invariant-loop

@@ -39,8 +39,8 @@ returns : tie.Need-returns
 unfolding entry_of
 returns c = rw (c.before.before.before.mu-of.ensures, c.kept.ensures)
 
-pub entry_at_spec : {M : Type 1} → statement M
-entry_at_spec =
+pub entry-at-spec : {M : Type 1} → statement M
+entry-at-spec =
     tie.close
     (tie.spec
     mul-mu-of

@@ -27,7 +27,7 @@ returns c =
     let a = c.before.args in
     c.entry_at.ensures ∙ sym (row_entry a.t.now a.e a.s no_entry c.before.requires.1)
 
-pub entry_in_spec : {M : Type 1} → statement M
-entry_in_spec =
+pub entry-in-spec : {M : Type 1} → statement M
+entry-in-spec =
     tie.close
     (tie.spec mul-entry-at add-entry-at mul-entry-at-2 add-entry-at-2 entry-at-requires returns)

@@ -51,8 +51,8 @@ returns : tie.Need-returns
 unfolding link_of
 returns c = rw (c.before.before.before.before.field.ensures.0, c.before.before.field2.ensures.0, c.field3.ensures.0)
 
-pub link_at_spec : {M : Type 1} → statement M
-link_at_spec =
+pub link-at-spec : {M : Type 1} → statement M
+link-at-spec =
     tie.close
     (tie.spec
     mul-a

@@ -13,5 +13,5 @@ row-at-requires c κs = search rules
 returns : tie.Need-returns
 returns c = rw (c.before.link_at.ensures, c.row_at.ensures)
 
-pub place_at_spec : {M : Type 1} → statement M
-place_at_spec = tie.close (tie.spec link-at-requires row-at-requires returns)
+pub place-at-spec : {M : Type 1} → statement M
+place-at-spec = tie.close (tie.spec link-at-requires row-at-requires returns)

@@ -36,8 +36,8 @@ returns : tie.Need-returns
 unfolding put_entry
 returns c = rw c.mu-code.ensures
 
-pub put_entry_spec : {M : Type 1} → statement M
-put_entry_spec =
+pub put-entry-spec : {M : Type 1} → statement M
+put-entry-spec =
     tie.close
     (tie.spec
     mu-code-requires

@@ -42,8 +42,8 @@ returns : tie.Need-returns
 unfolding put_link
 returns c = search rules
 
-pub put_link_spec : {M : Type 1} → statement M
-put_link_spec =
+pub put-link-spec : {M : Type 1} → statement M
+put-link-spec =
     tie.close
     (tie.spec
     mul-a

@@ -15,5 +15,5 @@ returns : tie.Need-returns
 unfolding put_place
 returns c = rw (c.put-row.ensures, c.before.before.put-link.ensures)
 
-pub put_place_spec : {M : Type 1} → statement M
-put_place_spec = tie.close (tie.spec put-link-requires put-row-requires returns)
+pub put-place-spec : {M : Type 1} → statement M
+put-place-spec = tie.close (tie.spec put-link-requires put-row-requires returns)

@@ -64,8 +64,8 @@ returns c =
     let l = c.before.loop in
     sym (put_end l.t (192 + o.args.e * 96 + l.s * 3) l.s o.args.t3 (omega (arith, len o))) ∙ l.invariant.1
 
-pub put_row_spec : {M : Type 1} → statement M
-put_row_spec =
+pub put-row-spec : {M : Type 1} → statement M
+put-row-spec =
     tie.close
     (tie.spec
     invariant-loop

@@ -60,8 +60,8 @@ returns : tie.Need-returns invariant-loop decreases-loop
 unfolding row_of
 returns c = c.before.loop.invariant.1 ∙ row_end c.before.before.blank-row.result _ _ 32 c.before.loop.s c.before.before.blank-row.ensures (omega arith)
 
-pub row_at_spec : {M : Type 1} → statement M
-row_at_spec =
+pub row-at-spec : {M : Type 1} → statement M
+row-at-spec =
     tie.close
     (tie.spec
     invariant-loop

@@ -21,6 +21,6 @@ returns : tie.Need-returns
 unfolding source_of source_from block_at
 returns c = search rules
 
-pub active_at_spec : {M : Type 1} → statement M
-active_at_spec =
+pub active-at-spec : {M : Type 1} → statement M
+active-at-spec =
     tie.close (tie.spec mul-result add-result mul-result-2 element-copy-out-result returns)

@@ -78,8 +78,8 @@ returns : tie.Need-returns
 unfolding block_at
 returns c = rw (c.before.before.before.before.before.before.before.before.before.before.before.before.before.before.wide.ensures, c.before.before.before.before.before.before.before.before.before.before.before.before.wide2.ensures, c.before.before.before.before.before.before.before.before.before.before.wide3.ensures, c.before.before.before.before.before.before.before.before.wide4.ensures, c.before.before.before.before.before.before.wide5.ensures, c.before.before.before.before.wide6.ensures, c.before.before.wide7.ensures, c.wide8.ensures)
 
-pub bytes_at_spec : {M : Type 1} → statement M
-bytes_at_spec =
+pub bytes-at-spec : {M : Type 1} → statement M
+bytes-at-spec =
     tie.close
     (tie.spec
     shared-slice-read-wide

@@ -27,8 +27,8 @@ returns : tie.Need-returns
 unfolding head_words
 returns c = rw (c.before.before.before.before.before.mu-code.ensures, c.before.before.before.before.bit.ensures, c.before.before.before.bit2.ensures, c.before.before.bit3.ensures, c.before.bit4.ensures, c.told-code.ensures)
 
-pub head_words_spec : {M : Type 1} → statement M
-head_words_spec =
+pub head-words-spec : {M : Type 1} → statement M
+head-words-spec =
     tie.close
     (tie.spec
     mu-code-requires

@@ -60,8 +60,8 @@ returns-2 c =
     let a = c.before.before.before.args in
     rw (← c.before.before.hops-at.ensures) (sym (hop_none a.t.now a.s c.before.before.hops-at.result l.hop l.i a.e c.loop-test.false) ∙ l.invariant.3)
 
-pub hop_of_spec : {M : Type 1} → statement M
-hop_of_spec =
+pub hop-of-spec : {M : Type 1} → statement M
+hop-of-spec =
     tie.close
     (tie.spec
     invariant-loop

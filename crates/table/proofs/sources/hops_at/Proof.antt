@@ -27,8 +27,8 @@ returns : tie.Need-returns
 unfolding hops_of
 returns c = c.field.ensures.0
 
-pub hops_at_spec : {M : Type 1} → statement M
-hops_at_spec =
+pub hops-at-spec : {M : Type 1} → statement M
+hops-at-spec =
     tie.close
     (tie.spec
     mul-field

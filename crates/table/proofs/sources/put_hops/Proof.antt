@@ -24,5 +24,5 @@ returns : tie.Need-returns
 unfolding put_hops
 returns c = search rules
 
-pub put_hops_spec : {M : Type 1} → statement M
-put_hops_spec = tie.close (tie.spec mul-t add-t add-t-2 mul-t-2 element-write-t returns)
+pub put-hops-spec : {M : Type 1} → statement M
+put-hops-spec = tie.close (tie.spec mul-t add-t add-t-2 mul-t-2 element-write-t returns)

@@ -25,8 +25,8 @@ returns : tie.Need-returns
 unfolding put_path
 returns c = c.put-block.ensures ∙ ap (put_block _ _) c.before.before.bytes-at.ensures
 
-pub put_path_spec : {M : Type 1} → statement M
-put_path_spec =
+pub put-path-spec : {M : Type 1} → statement M
+put-path-spec =
     tie.close
     (tie.spec
     bytes-at-requires

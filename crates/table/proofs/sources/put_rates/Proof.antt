@@ -42,8 +42,8 @@ returns : tie.Need-returns
 unfolding put_rates
 returns c = search rules
 
-pub put_rates_spec : {M : Type 1} → statement M
-put_rates_spec =
+pub put-rates-spec : {M : Type 1} → statement M
+put-rates-spec =
     tie.close
     (tie.spec
     mul-t

@@ -30,8 +30,8 @@ returns : tie.Need-returns
 unfolding put_source
 returns c = rw (c.put-rates.ensures, c.before.before.put-block.ensures, c.before.before.before.before.told-rate.ensures, c.before.before.before.before.before.before.head-words.ensures)
 
-pub put_source_spec : {M : Type 1} → statement M
-put_source_spec =
+pub put-source-spec : {M : Type 1} → statement M
+put-source-spec =
     tie.close
     (tie.spec
     mul-a

@@ -28,8 +28,8 @@ returns : tie.Need-returns
 unfolding source_of
 returns c = c.source-from.ensures ∙ ap₂ source_from c.before.before.block_at.ensures c.before.block-at2.ensures
 
-pub source_at_spec : {M : Type 1} → statement M
-source_at_spec =
+pub source-at-spec : {M : Type 1} → statement M
+source-at-spec =
     tie.close
     (tie.spec
     mul-a

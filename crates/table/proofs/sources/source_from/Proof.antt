@@ -60,8 +60,8 @@ returns : tie.Need-returns
 unfolding source_from
 returns c = rw (c.before.before.before.before.field.ensures.0, c.before.before.before.field2.ensures.0, c.before.before.mu-of.ensures, c.before.kept.ensures, c.told_of.ensures)
 
-pub source_from_spec : {M : Type 1} → statement M
-source_from_spec =
+pub source-from-spec : {M : Type 1} → statement M
+source-from-spec =
     tie.close
     (tie.spec
     array-read-field

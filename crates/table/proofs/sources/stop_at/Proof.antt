@@ -30,8 +30,8 @@ returns : tie.Need-returns
 unfolding stop_of
 returns c = c.field.ensures.0
 
-pub stop_at_spec : {M : Type 1} → statement M
-stop_at_spec =
+pub stop-at-spec : {M : Type 1} → statement M
+stop-at-spec =
     tie.close
     (tie.spec
     mul-field

@@ -39,8 +39,8 @@ loop-again c = omega arith
 returns-2 : tie.Need-returns-2 invariant-loop decreases-loop
 returns-2 c = search rules
 
-pub drain_spec : {M : Type 1} → statement M
-drain_spec =
+pub drain-spec : {M : Type 1} → statement M
+drain-spec =
     tie.close
     (tie.spec
     invariant-loop

@@ -57,8 +57,8 @@ returns-3 c = search rules
 returns-4 : tie.Need-returns-4 invariant-loop decreases-loop
 returns-4 c = search rules
 
-pub records_spec : {M : Type 1} → statement M
-records_spec =
+pub records-spec : {M : Type 1} → statement M
+records-spec =
     tie.close
     (tie.spec
     invariant-loop

@@ -42,8 +42,8 @@ loop-again c = omega arith
 returns-2 : tie.Need-returns-2 invariant-loop decreases-loop
 returns-2 c = search rules
 
-pub word_spec : {M : Type 1} → statement M
-word_spec =
+pub word-spec : {M : Type 1} → statement M
+word-spec =
     tie.close
     (tie.spec
     invariant-loop
