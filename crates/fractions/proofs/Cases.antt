@@ -148,5 +148,5 @@ chose_second y true e n = absurd (n e)
 chose_second y false e n = refl
 
 -- an answer that is the one promised says the same
-pub said_too : {A B : Type 0} (f : A → B) {x y : A} → x ≡ y → (x ≡ y) × (f x ≡ f y)
-said_too f e = (e, ap f e)
+pub said_too : {A B : Type 0} (f : A → B) {x y : A} → x ≡ y → record { exact : x ≡ y; said : f x ≡ f y }
+said_too f e = record { exact = e; said = ap f e }

@@ -1,31 +1,33 @@
 // Rates as exact fractions: a numerator and a denominator in lowest terms, compared by their cross products (01, "Fractions").
+#![tactic(auto)]
+
 ghost use Rattle.std.specs.Prelude.{◌≡◌, ℕ, ◌*◌, ◌≤◌, ◌<◌};
 ghost use Rattle.fractions.specs.Divisor.{IsGcd, OddPart};
 ghost use Rattle.fractions.specs.Fraction.{Sized, limit, max_den, max_rate, is_rate_of, kept_of, le_of, lt_of, same_of, zero_of, whole_of, lowest_of, fine_of, plus_of, left_of, among_of, share_of, sum_said, share_said};
 
 // A rate in kbit/s.
-#[derive(Drop)]
+#[derive(Clone, Copy)]
 pub struct Rate {
     pub num: u64,
     pub den: u64,
 }
 
 // A part of a link's capacity, as a fraction that need not be in lowest terms.
-#[derive(Drop)]
+#[derive(Clone, Copy)]
 pub struct Part {
     pub num: u64,
     pub den: u64,
 }
 
 // A sum of rates, or that its denominator is over the limit.
-#[derive(Drop)]
+#[derive(Clone, Copy)]
 pub enum Sum {
     Rate(Rate),
     TooFine,
 }
 
 // A link's share, or that its denominator is over the limit.
-#[derive(Drop)]
+#[derive(Clone, Copy)]
 pub enum Share {
     Rate(Rate),
     TooFine,
