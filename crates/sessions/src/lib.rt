@@ -1,4 +1,6 @@
 // Sets as words: of sessions with 32 bits, one bit a session (01, "Fractions"), and of links with 64.
+#![tactic(auto)]
+
 ghost use Rattle.std.specs.Prelude.{◌≡◌, ℕ, ◌<◌};
 ghost use Rattle.std.specs.Int.Count.{ones_in};
 ghost use Rattle.sessions.specs.Set.{has_of, only_of, put, cut, size_of, next_of, next_link_of};
