@@ -1,4 +1,6 @@
 // The direct calculation of every session's max-min fair rate (01, "The direct calculation"): the entry point `calculate`.
+#![tactic(auto)]
+
 ghost use Rattle.std.specs.Prelude.{◌≡◌, ℕ, ◌≤◌, ◌<◌, get_or, length};
 ghost use Rattle.fractions.specs.Fraction.{max_rate};
 ghost use Rattle.fairness.specs.Figure1.{values};
@@ -19,14 +21,14 @@ pub const OWN: u64 = 64;
 pub const PLACES: usize = 32;
 
 // Which links and sessions are declared, or what was refused and the place of its record's kind byte.
-#[derive(Drop)]
+#[derive(Clone, Copy)]
 pub enum Calculated {
     Done { links: u64, sessions: u32 },
     Refused { refusal: Refusal, place: usize },
 }
 
 // For each session number a rate and a binding place: a link's number, or 64 for "own".
-#[derive(Drop)]
+#[derive(Clone, Copy)]
 pub struct Results {
     pub nums: [u64; 32],
     pub dens: [u64; 32],

@@ -1,6 +1,8 @@
 // The direct calculation (01; 001, Figure 1), over one common denominator: the rates fixed so far, and what is left of the links, are whole numbers
 // of parts 1/den. So what a round changes is a multiplication for each link that has a session not yet fixed, where the denominator grows, and a
 // subtraction for each link of a session that it fixes, which the link remembers if it was the last there; it reduces no fraction.
+#![tactic(auto)]
+
 ghost use Rattle.std.specs.Prelude.{◌≡◌, ℕ, ◌*◌, ◌≤◌, ◌<◌, eqb, get_or, length, replicate};
 ghost use Rattle.fractions.specs.Fraction.{max_rate};
 ghost use Rattle.filling.specs.Crossings.{Crossing, Joins, words_of};
@@ -13,7 +15,7 @@ use declarations::Declared;
 use fractions::Part;
 
 // The smallest share so far, room / (den * count), the links that have it, and the sessions whose own limit has it.
-#[derive(Drop)]
+#[derive(Clone, Copy)]
 struct Smallest {
     pub room: u64,
     pub count: u64,
@@ -22,7 +24,7 @@ struct Smallest {
 }
 
 // What a round gives: the smallest share, room / (den * count), and the sessions that get it.
-#[derive(Drop)]
+#[derive(Clone, Copy)]
 struct Given {
     pub room: u64,
     pub count: u64,
@@ -31,7 +33,7 @@ struct Given {
 
 // All rates, rate / den; what is left of each link: 0 exactly where its capacity is fully used; and the session that was fixed last on each link that
 // has one, which has the highest rate there.
-#[derive(Drop)]
+#[derive(Clone, Copy)]
 pub struct Fixed {
     pub den: u64,
     pub rate: [u64; 32],
