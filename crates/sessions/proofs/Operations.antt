@@ -3,7 +3,7 @@
 use mathlib.Core.Bool.{Bool, false, not, true, ◌&&◌, ◌||◌}
 use mathlib.Core.Logic.{◌⊎◌, inl, inr}
 use mathlib.Core.Path.{◌≡◌, refl, sym, ap, ap₂, ◌∙◌}
-use Prim.Native.Nat.{ℕ, zero, suc, ◌+◌, ◌-◌, ◌*◌, ◌/◌, ◌%◌, ◌^◌, ◌≤◌, ◌<◌, min, max}
+use Prim.Native.Nat.{ℕ, zero, suc, ◌+◌, ◌-◌, ◌*◌, ◌/◌, ◌%◌, ◌^◌, ◌<◌, min, max}
 use native.Mathlib.Nat.{pow-suc, one-mul, max-zero, min-zero, max-eq_right, min-eq_left, min-le_left, mod-eq_of_lt, div-div-eq-div-mul}
 use native.Mathlib.Omega.{arith}
 use lib.Bits.{bit_and, bit_or, and_step, and_le_l, or_step, or_shr, or_zero_l, or_zero_r, and_mask, and_shr}
