@@ -1,5 +1,7 @@
 // 01, "Settled: five conditions": whether a table is settled. Each session and each link is looked at once, and of a link only the entries of the
 // sessions that it holds.
+#![tactic(auto)]
+
 ghost use Rattle.std.specs.Prelude.{not, ◌&&◌, ◌||◌, ◌≡◌, ◌≤◌, ◌<◌};
 ghost use Rattle.fractions.specs.Fraction.{Sized, le_of, max_rate, same_of, whole_of};
 ghost use Rattle.links.specs.Links.{BoundSized, below_b, equals_b};

@@ -1,5 +1,7 @@
 // The events of the machine: what each record does to the lent words, and refusals 7 to 13 and 16 (01, "What is turned away"; 02, §1).
 // A step is worked out on values with all its refusals before a word is written.
+#![tactic(auto)]
+
 ghost use Rattle.std.specs.Prelude.{not, true, ◌&&◌, ◌≡◌, ◌+◌, ◌≤◌, ◌<◌, ltb, length};
 ghost use Rattle.records.specs.Format.{RecordOk};
 ghost use Rattle.records.specs.Run.{verdict_number};

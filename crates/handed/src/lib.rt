@@ -1,5 +1,7 @@
 // 01, refusal 14: the test of a table that is handed in. Each session, each packet and each link is looked at once, and of a link only the entries of
 // the sessions that it holds.
+#![tactic(auto)]
+
 ghost use Rattle.std.specs.Prelude.{true, ◌≡◌, ◌≤◌, ◌<◌};
 ghost use Rattle.std.specs.Int.Bits.{bit_or};
 ghost use Rattle.records.specs.Format.{all};

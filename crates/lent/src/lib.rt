@@ -1,5 +1,7 @@
 // A link and its entries that the caller keeps and lends: the F check on a slice of entries, and the step at a link with the link's own record lent.
 // Each takes what is lent apart, calls a function on values, and puts the result back (01, "The tasks").
+#![tactic(auto)]
+
 ghost use Rattle.std.specs.Prelude.{◌++◌, ◌≡◌, ◌≤◌, drop, length, replicate, take};
 ghost use Rattle.fractions.specs.Fraction.{zero_of};
 ghost use Rattle.links.specs.Links.{entry};
@@ -12,21 +14,21 @@ use records::Refusal;
 use tasks::{Burst, Kind, Onward};
 
 // What the F check answers: the sessions that are sent an Update, and the link's B; or why nothing was done.
-#[derive(Drop)]
+#[derive(Clone, Copy)]
 pub enum FChecked {
     Done { to: u32, bound: Bound },
     Refused { refusal: Refusal },
 }
 
 // What the step answers: what is sent, first to the sessions of a word by rising number, then of the packet's own; or why nothing was done.
-#[derive(Drop)]
+#[derive(Clone, Copy)]
 pub enum Stepped {
     Done { burst: Burst, to: u32, on: Onward },
     Refused { refusal: Refusal },
 }
 
 // A link and its entries after the F check, with its answer.
-#[derive(Drop)]
+#[derive(Clone, Copy)]
 pub struct Checking {
     pub link: Link,
     pub entries: [Entry; 32],
@@ -34,7 +36,7 @@ pub struct Checking {
 }
 
 // A link and its entries after the step, with its answer.
-#[derive(Drop)]
+#[derive(Clone, Copy)]
 pub struct Stepping {
     pub link: Link,
     pub entries: [Entry; 32],

@@ -1,4 +1,6 @@
 // The machine: a lent table of words takes records one at a time, and knows when it is settled (01).
+#![tactic(auto)]
+
 ghost use Rattle.std.specs.Prelude.{◌≡◌, ◌<◌, length};
 ghost use Rattle.events.specs.Events.{ended};
 ghost use Rattle.records.specs.Run.{said_of};
@@ -9,14 +11,14 @@ use ends::Told;
 use records::{Call, End, Read, Refusal, Verdict};
 
 // How many records a run took, and how it ended.
-#[derive(Drop)]
+#[derive(Clone, Copy)]
 pub struct Ran {
     pub taken: usize,
     pub end: End,
 }
 
 // Whether a table is settled, or that it fails the test of refusal 14.
-#[derive(Drop)]
+#[derive(Clone, Copy)]
 pub enum SettledAnswer {
     Yes,
     No,
@@ -24,7 +26,7 @@ pub enum SettledAnswer {
 }
 
 // A session as its owner sees it: not active, or active with the rate last told.
-#[derive(Drop)]
+#[derive(Clone, Copy)]
 pub enum Session {
     NotActive,
     Active(Told),

@@ -1,4 +1,6 @@
 // Packets on the lent table: what a task sends, and whose turn it is (01, "Added here").
+#![tactic(auto)]
+
 ghost use Rattle.std.specs.Prelude.{◌≡◌, ◌≤◌, ◌<◌};
 ghost use Rattle.sending.specs.Sending.{add_on_path, burst_kind, in_turn_of, next_hop, none_of, on_path_of, one_if, same_lane, send_all_of, send_on_of, send_up_of, sent_from};
 
