@@ -1,4 +1,6 @@
 // The tasks of a source (001, Figure 3) and of a destination (Figure 4), on values.
+#![tactic(auto)]
+
 ghost use Rattle.std.specs.Prelude.{not, ◌&&◌, ◌||◌, ◌≡◌, ℕ, ◌≤◌};
 ghost use Rattle.fractions.specs.Fraction.{Sized, lt_of, max_rate, whole_of};
 ghost use Rattle.links.specs.Links.{is_idle};
@@ -12,7 +14,7 @@ use links::Mu;
 use tasks::{Eta, Kind, Onward, Tau};
 
 // The rate last told to a session.
-#[derive(Drop)]
+#[derive(Clone, Copy)]
 pub enum Told {
     Never,
     Rate(Rate),
@@ -20,7 +22,7 @@ pub enum Told {
 
 // What a source keeps of its session. Its R and F hold at most this session: free says that it is in F.
 // updated and bottlenecked are the paper's upd_rcv and bneck_rcv.
-#[derive(Drop)]
+#[derive(Clone, Copy)]
 pub struct Source {
     pub active: bool,
     pub access: u64,
@@ -34,7 +36,7 @@ pub struct Source {
 }
 
 // What a source does: the source after it, and what it sends.
-#[derive(Drop)]
+#[derive(Clone, Copy)]
 pub struct SourceDid {
     pub source: Source,
     pub on: Onward,

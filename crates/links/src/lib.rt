@@ -1,4 +1,6 @@
 // A link with its entries: its words R and F, and sets of its sessions (001, section III). Its B is in sums.rt, the F check in check.rt.
+#![tactic(auto)]
+
 mod check;
 mod sums;
 
@@ -16,7 +18,7 @@ pub use sums::{
 };
 
 // The state of a session at a link or at its source.
-#[derive(Drop)]
+#[derive(Clone, Copy)]
 pub enum Mu {
     Idle,
     WaitingProbe,
@@ -24,14 +26,14 @@ pub enum Mu {
 }
 
 // What a link keeps of a session: its state and its rate.
-#[derive(Drop)]
+#[derive(Clone, Copy)]
 pub struct Entry {
     pub mu: Mu,
     pub rate: Rate,
 }
 
 // A link's own record; capacity 0: not declared. r and f are the words of R and F.
-#[derive(Drop)]
+#[derive(Clone, Copy)]
 pub struct Link {
     pub capacity: u64,
     pub r: u32,
@@ -39,14 +41,14 @@ pub struct Link {
 }
 
 // A link with the entries of its 32 sessions. An entry exists where its session is in R or F.
-#[derive(Drop)]
+#[derive(Clone, Copy)]
 pub struct Place {
     pub link: Link,
     pub entries: [Entry; 32],
 }
 
 // The sum of F's rates at a link, or that a partial sum has a denominator over the limit, or is past the capacity.
-#[derive(Drop)]
+#[derive(Clone, Copy)]
 pub enum Total {
     Rate(Rate),
     TooFine,
@@ -54,7 +56,7 @@ pub enum Total {
 }
 
 // B of a link; or, where R is empty, that it is above every rate; or that a partial sum or B has a denominator over the limit.
-#[derive(Drop)]
+#[derive(Clone, Copy)]
 pub enum Bound {
     At(Rate),
     Above,
@@ -62,7 +64,7 @@ pub enum Bound {
 }
 
 // What is asked of an entry: a rate equal to m or another, a rate of at least B, or to be idle with a rate above B or equal to it.
-#[derive(Drop)]
+#[derive(Clone, Copy)]
 pub enum Wanted {
     Equal(Rate),
     Other(Rate),
@@ -72,14 +74,14 @@ pub enum Wanted {
 }
 
 // A link that the F check leaves, with its B.
-#[derive(Drop)]
+#[derive(Clone, Copy)]
 pub struct Checked {
     pub place: Place,
     pub bound: Bound,
 }
 
 // What ProcessNewRestricted leaves: the link, the sessions that are sent an Update, and the link's B.
-#[derive(Drop)]
+#[derive(Clone, Copy)]
 pub struct Processed {
     pub place: Place,
     pub to: u32,

@@ -1,5 +1,7 @@
 // 01, refusal 14: the words in use of a table that is handed in are within their ranges, and their rates in lowest terms; 02, §1: no maximum is above
 // its access rate.
+#![tactic(auto)]
+
 ghost use Rattle.std.specs.Prelude.{◌&&◌, true, ◌≡◌, ◌≤◌, ◌<◌, eqb};
 ghost use Rattle.fractions.specs.Fraction.{frac, is_rate_of};
 ghost use Rattle.ranges.specs.Ranges.{count_fits, link_fits, entry_fits, standing_fits, flags_fit, numbers_fit, rates_fit, stops_fit, path_fits, source_fits, rated_fits, kind_fits, words_fit, packet_fits};

@@ -1,4 +1,6 @@
 // The machine's state as words that the caller lends: what stands where, read and written part by part.
+#![tactic(auto)]
+
 mod fields;
 mod listed;
 mod rows;

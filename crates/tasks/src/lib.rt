@@ -1,4 +1,6 @@
 // Packets, and the task of a link on values (001, Figure 2).
+#![tactic(auto)]
+
 ghost use Rattle.std.specs.Prelude.{◌≡◌, true, false, ◌&&◌, ℕ, ◌≤◌, ◌<◌};
 ghost use Rattle.fractions.specs.Fraction.{Sized, max_rate, zero_of};
 ghost use Rattle.tasks.specs.declared.Kind.TheVariants as kind;
@@ -11,7 +13,7 @@ use fractions::Rate;
 use links::{Bound, Entry, Mu, Place, Wanted};
 
 // What a Response asks for.
-#[derive(Drop)]
+#[derive(Clone, Copy)]
 pub enum Tau {
     Response,
     Update,
@@ -19,14 +21,14 @@ pub enum Tau {
 }
 
 // The link that imposed a packet's rate: the source's own line, or a link of the path.
-#[derive(Drop)]
+#[derive(Clone, Copy)]
 pub enum Eta {
     Own,
     Link(u32),
 }
 
 // A packet's kind, with what the paper gives it besides its session. Join, Probe, SetBottleneck and Leave go downstream, the others upstream.
-#[derive(Drop)]
+#[derive(Clone, Copy)]
 pub enum Kind {
     Join(Rate, Eta),
     Probe(Rate, Eta),
@@ -38,7 +40,7 @@ pub enum Kind {
 }
 
 // A packet in flight: its hop is the one that it is about to reach; down is the way to the destination.
-#[derive(Drop)]
+#[derive(Clone, Copy)]
 pub struct Packet {
     pub session: u32,
     pub hop: u32,
@@ -47,14 +49,14 @@ pub struct Packet {
 }
 
 // What a link sends upstream to a set of sessions.
-#[derive(Drop)]
+#[derive(Clone, Copy)]
 pub enum Burst {
     Update,
     Bottleneck,
 }
 
 // What a task sends of its packet's own session.
-#[derive(Drop)]
+#[derive(Clone, Copy)]
 pub enum Onward {
     Nothing,
     Send(Kind),
@@ -62,7 +64,7 @@ pub enum Onward {
 
 // What a link does with a packet: the link after it; what it sends, first to the sessions of a word by rising number, then of the packet's own;
 // and whether every partial sum and B that was read, and those of the link after it, are within the limit of refusal 12.
-#[derive(Drop)]
+#[derive(Clone, Copy)]
 pub struct Did {
     pub place: Place,
     pub burst: Burst,

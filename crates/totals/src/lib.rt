@@ -1,5 +1,7 @@
 // The sum of F and the rate B of a link of a lent table (001, section III.C), read entry by entry: of the 32 entries of a link only those of F are
 // looked at.
+#![tactic(auto)]
+
 ghost use Rattle.std.specs.Prelude.{◌≡◌, ◌≤◌, ◌<◌};
 ghost use Rattle.fractions.specs.Fraction.{max_rate};
 ghost use Rattle.links.specs.Links.{TotalSized, bound_of, is_fine, sum_of, total_said};
