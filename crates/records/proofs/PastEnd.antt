@@ -1,10 +1,10 @@
 -- Past the end of an input stands no kind, and so none that is taken.
 -- Assumes nothing.
-use mathlib.Core.Bool.{cond, false}
+use mathlib.Core.Bool.{false}
 use mathlib.Core.List.{List}
 use mathlib.Core.Path.{◌≡◌, refl}
 use Prim.Native.Nat.{ℕ, ◌≤◌}
-use lib.ListN.{get_or, length, get_or-eq_default}
+use lib.ListN.{length, get_or-eq_default}
 use Rattle.records.specs.Format.{body_of, read_at, size_at, takes_of}
 use Rattle.records.specs.declared.Call.{Call}
 use Rattle.records.specs.declared.Call.TheVariants as call

@@ -1,4 +1,6 @@
 // The sites' records: the limits, the refusals and their numbers, and one record read at a place (01, "Records").
+#![tactic(auto)]
+
 mod paths;
 mod reading;
 
@@ -27,7 +29,7 @@ pub const INPUT: usize = 32_768;
 pub const BODIES: [usize; 6] = [0, 5, 18, 1, 5, 2];
 
 // Why a call turns something away. `number` gives its number in 01 or 02.
-#[derive(Drop)]
+#[derive(Clone, Copy)]
 pub enum Refusal {
     TooLong,
     KindNotTaken,
@@ -49,14 +51,14 @@ pub enum Refusal {
 }
 
 // The calls that read records take different kinds.
-#[derive(Drop)]
+#[derive(Clone, Copy)]
 pub enum Call {
     Calculation,
     Machine,
 }
 
 // One record. The link bytes of a session's path stay in the input, from `path` on.
-#[derive(Drop)]
+#[derive(Clone, Copy)]
 pub enum Record {
     Link {
         link: u32,
@@ -82,21 +84,21 @@ pub enum Record {
 }
 
 // A record, or why there is none.
-#[derive(Drop)]
+#[derive(Clone, Copy)]
 pub enum Read {
     Record(Record),
     Refused(Refusal),
 }
 
 // Whether a record was taken.
-#[derive(Drop)]
+#[derive(Clone, Copy)]
 pub enum Verdict {
     Taken,
     Refused(Refusal),
 }
 
 // How a run of records ended; a refusal has the place of its record's kind byte.
-#[derive(Drop)]
+#[derive(Clone, Copy)]
 pub enum End {
     Finished,
     Refused { refusal: Refusal, place: usize },
