@@ -1,10 +1,9 @@
 -- One turn, and each end, of the F check.
 -- Assumes nothing.
 use mathlib.Core.Bool.{true, false, not}
-use mathlib.Core.Path.{◌≡◌, ap, refl, sym, ◌∙◌}
+use mathlib.Core.Path.{◌≡◌, ap, sym, ◌∙◌}
 use Prim.Native.Nat.{ℕ, suc, ◌+◌, ◌-◌, ◌≤◌, ◌<◌}
 use borrow.Author.Tests.{eq-eqb, ne_eqb}
-use lib.Dec.{eqb}
 use native.Mathlib.Omega.{arith}
 use Rattle.links.specs.declared.Bound.{Bound}
 use Rattle.links.specs.declared.Checked.{Checked}

@@ -1,14 +1,12 @@
 -- What is worked out from rates within the limits is within the limits: sums, totals, B, and the entries after each change.
 -- Assumes nothing.
-use mathlib.Core.Bool.{Bool, cond, false, true}
-use mathlib.Core.List.{List, [], ◌∷◌}
+use mathlib.Core.List.{List}
 use mathlib.Core.Logic.{◌⊎◌, inl, inr, ⊎_elim}
 use mathlib.Core.Path.{◌≡◌, ap, refl, subst, sym, ◌∙◌}
 use borrow.Author.Tests.{leb-true}
 use lib.Dec.{lit≤}
-use lib.ListN.{get_or, length, length-set, set}
+use lib.ListN.{get_or, length-set, set}
 use lib.Seq.{get_or-set_same, get_or-set_other}
-use native.Mathlib.Nat.{mul-pos}
 use native.Mathlib.Omega.{arith}
 use Prim.Native.Nat.{ℕ, zero, suc, ◌+◌, ◌*◌, ◌≤◌, ◌<◌}
 use Rattle.fractions.specs.declared.Rate.{Rate}
@@ -16,15 +14,11 @@ use Rattle.fractions.specs.declared.Share.{Share}
 use Rattle.fractions.specs.declared.Share.TheVariants as share
 use Rattle.fractions.specs.declared.Sum.{Sum}
 use Rattle.fractions.specs.declared.Sum.TheVariants as sum
-use Rattle.fractions.specs.Fraction.{Sized, add_of, le_of, limit, max_den, max_rate, plus_of, share_of, whole_of, zero_of}
+use Rattle.fractions.specs.Fraction.{Sized, le_of, limit, max_rate, plus_of, share_of, whole_of, zero_of}
 use Rattle.fractions.proofs.Cases.{cases, order}
-use Rattle.fractions.proofs.LowestTerms.{lowest_pos}
 use Rattle.fractions.proofs.Ranges.{plus_sized, sized_more, whole_sized, within_sized}
 use Rattle.fractions.proofs.Shares.{share_within}
-use Rattle.sessions.specs.Set.{members, walk}
 use Rattle.sessions.proofs.Walks.{walk_keeps}
-use Rattle.links.specs.declared.Bound.{Bound}
-use Rattle.links.specs.declared.Bound.TheVariants as bound
 use Rattle.links.specs.declared.Entry.{Entry}
 use Rattle.links.specs.declared.Mu.{Mu}
 use Rattle.links.specs.declared.Mu.TheVariants as mu

@@ -4,7 +4,7 @@ use mathlib.Core.Path.{◌≡◌, ap, refl}
 use mathlib.Core.List.{List}
 use Prim.Native.Nat.{ℕ, ◌^◌, ◌<◌}
 use lib.Count.{count_trailing_zeros}
-use Rattle.sessions.specs.Set.{cut, members, walk}
+use Rattle.sessions.specs.Set.{cut}
 use Rattle.sessions.proofs.Walks.{walk_end, walk_turn}
 use Rattle.links.specs.declared.Entry.{Entry}
 use Rattle.links.specs.declared.Place.{Place}

@@ -1,7 +1,6 @@
 -- `links::check_f` meets its contract: what is left of the check comes to the whole.
 -- Assumes nothing.
 use mathlib.Core.Path.{refl, subst, sym, ◌∙◌}
-use Prim.Native.Nat.{◌-◌}
 use native.Mathlib.Omega.{arith}
 use Rattle.links.specs.Links.{BoundSized, Workable}
 use Rattle.links.proofs.Checks.{check_ends, check_stays, check_turns, checked_is}

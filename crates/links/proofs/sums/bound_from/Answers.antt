@@ -1,10 +1,9 @@
 -- `links::bound_from` meets its contract, whatever F comes to.
 -- Assumes nothing.
-use mathlib.Core.Path.{subst, ap, refl, sym, ◌∙◌}
+use mathlib.Core.Path.{ap, refl, sym, ◌∙◌}
 use native.Mathlib.Omega.{arith}
 use Rattle.fractions.proofs.Cases.{said_too}
-use Rattle.fractions.proofs.Ranges.{sized_more}
-use Rattle.links.specs.Links.{TotalSized, as_bound, bound_of, bound_said}
+use Rattle.links.specs.Links.{as_bound, bound_of, bound_said}
 use Rattle.links.proofs.Bounds.{bound_none, bound_past, bound_past_none, bound_some}
 use Rattle.links.specs.declared.Bound.TheVariants as bound
 use Rattle.links.proofs.sums.bound_from.Goals as goal

@@ -4,7 +4,7 @@ use mathlib.Core.Path.{refl, subst, sym}
 use Rattle.fractions.proofs.Cases.{said_too}
 use Rattle.fractions.proofs.Ranges.{sized_more}
 use Rattle.links.specs.Links.{SumSized, TotalSized, more_of, total_said}
-use Rattle.links.proofs.Sizes.{to_limit, two_sized}
+use Rattle.links.proofs.Sizes.{two_sized}
 use Rattle.links.proofs.sums.more.Goals as goal
 
 pub up_to-requires : goal.up_to-requires

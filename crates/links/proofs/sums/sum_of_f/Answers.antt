@@ -1,6 +1,5 @@
 -- `links::sum_of_f` meets its contract: what is left to add comes to the whole.
 -- Assumes nothing.
-use Rattle.links.specs.declared.Total.TheVariants as total
 use mathlib.Core.Path.{sym, subst, ◌∙◌}
 use Rattle.fractions.specs.Fraction.{Sized}
 use native.Mathlib.Omega.{arith}

@@ -1,5 +1,4 @@
 -- What the loop of `links::sums::sum_of_f` keeps.
-use Rattle.links.specs.declared.Total.TheVariants as total
 use mathlib.Core.Path.{◌≡◌}
 use Prim.Native.Nat.{◌^◌, ◌<◌}
 use Rattle.sessions.specs.Set.{members, walk}

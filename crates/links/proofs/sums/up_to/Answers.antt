@@ -2,11 +2,9 @@
 -- Assumes nothing.
 use mathlib.Core.Bool.{true, false}
 use mathlib.Core.Path.{◌≡◌, ◌∙◌, subst, sym}
-use Rattle.fractions.specs.Fraction.{le_of, whole_of, Sized, limit}
+use Rattle.fractions.specs.Fraction.{le_of, whole_of}
 use Rattle.fractions.specs.declared.Rate.{Rate}
-use Rattle.fractions.proofs.Ranges.{whole_sized}
-use Rattle.links.specs.Links.{SumSized, upto_of}
-use Rattle.links.proofs.Sizes.{to_limit}
+use Rattle.links.specs.Links.{upto_of}
 use Rattle.links.proofs.sums.up_to.Goals as goal
 
 pub returns-then-le : goal.returns-then-le
