@@ -1,4 +1,6 @@
 // The search for sessions that cross a chosen link (01, "The direct calculation").
+#![tactic(auto)]
+
 ghost use Rattle.std.specs.Prelude.{◌≡◌, ◌<◌};
 ghost use Rattle.sessions.specs.Set.{has_of};
 ghost use Rattle.search.specs.Crossing.{AllAt, FirstAt, after_of};
