@@ -1,0 +1,35 @@
+-- `tasks::not_held` meets its contract, kind by kind.
+-- Assumes nothing.
+use mathlib.Core.Path.{subst}
+use Rattle.fractions.proofs.Cases.{or_false}
+use Rattle.links.specs.Links.{in_f, in_r}
+use Rattle.tasks.specs.Figure2.{KindSized, link_step_of}
+use Rattle.tasks.proofs.not_held.Goals as goal
+
+pub returns-in-Join : goal.returns-in-Join
+unfolding link_step_of
+returns-in-Join c = rw (c.in-Join.is, c.requires.3) c.join_at.ensures
+
+pub returns-in-Probe : goal.returns-in-Probe
+unfolding link_step_of
+returns-in-Probe c = rw (c.in-Probe.is, c.requires.3) c.quietly.ensures
+
+pub returns-in-Response : goal.returns-in-Response
+unfolding link_step_of
+returns-in-Response c = rw (c.in-Response.is, (or_false (in_r c.args.p c.args.s) (in_f c.args.p c.args.s) c.requires.3).0) c.quietly-in-Response.ensures
+
+pub returns-in-Update : goal.returns-in-Update
+unfolding link_step_of
+returns-in-Update c = rw (c.in-Update.is, c.requires.3) c.quietly-in-Update.ensures
+
+pub returns-in-Bottleneck : goal.returns-in-Bottleneck
+unfolding link_step_of
+returns-in-Bottleneck c = rw (c.in-Bottleneck.is, c.requires.3) c.quietly-in-Bottleneck.ensures
+
+pub returns-in-SetBottleneck : goal.returns-in-SetBottleneck
+unfolding link_step_of
+returns-in-SetBottleneck c = rw (c.in-SetBottleneck.is, c.requires.3) c.quietly-in-SetBottleneck.ensures
+
+pub returns-in-Leave : goal.returns-in-Leave
+unfolding link_step_of
+returns-in-Leave c = rw (c.in-Leave.is, c.requires.3) c.quietly-in-Leave.ensures
