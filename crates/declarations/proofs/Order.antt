@@ -3,7 +3,7 @@
 -- Assumes nothing.
 use mathlib.Core.List.{List, [], ◌∷◌, ◌++◌}
 use mathlib.Core.Path.{◌≡◌, refl}
-use Prim.Native.Nat.{ℕ, ◌+◌}
+use Prim.Native.Nat.{ℕ}
 use lib.ListN.{replicate}
 use Rattle.sessions.specs.Set.{has, put}
 use Rattle.records.specs.Format.{all, be2, be4, body_at, body_of, change_at, deliver_at, differ, is_new, leave_at, link_at, links_ok, path_ok, read_at, rest_ok, session_at, size_at}

@@ -1,4 +1,6 @@
 // The declared links and sessions of an input (01, "Records"), and a session's own limit.
+#![tactic(auto)]
+
 ghost use Rattle.std.specs.Prelude.{◌≡◌, ◌+◌, ◌*◌, ◌≤◌, ◌<◌, length, replicate};
 ghost use Rattle.records.specs.Format.{read_at, RecordOk};
 ghost use Rattle.records.specs.Run.{judged, said_of};
@@ -8,7 +10,7 @@ ghost use Rattle.declarations.specs.Declaring.{own_limit_of, path_declared, judg
 use records::{Call, End, Read, Record, Refusal, Verdict};
 
 // The declared links and sessions. A path has eight bytes; those that it does not use are 255.
-#[derive(Drop)]
+#[derive(Clone, Copy)]
 pub struct Declared {
     pub links: u64,
     pub capacity: [u64; 64],
@@ -19,7 +21,7 @@ pub struct Declared {
 }
 
 // What a run of records declared, how many were taken, and how it ended.
-#[derive(Drop)]
+#[derive(Clone, Copy)]
 pub struct Declarations {
     pub declared: Declared,
     pub taken: usize,
