@@ -1,8 +1,5 @@
 -- `tasks::freed` meets its contract: the words, those at B, and B after it.
 -- Assumes nothing.
-use mathlib.Core.Path.{subst, sym}
-use Rattle.links.specs.Links.{Workable}
-use Rattle.links.proofs.Sizes.{workable_words}
 use Rattle.tasks.specs.Figure2.{freed_of}
 use Rattle.tasks.proofs.freed.Goals as goal
 

@@ -1,7 +1,6 @@
 -- `tasks::held` meets its contract, kind by kind.
 -- Assumes nothing.
-use mathlib.Core.Path.{subst}
-use Rattle.tasks.specs.Figure2.{KindSized, link_step_of}
+use Rattle.tasks.specs.Figure2.{link_step_of}
 use Rattle.tasks.proofs.held.Goals as goal
 
 pub returns-in-Join : goal.returns-in-Join

@@ -1,9 +1,8 @@
 -- `tasks::not_held` meets its contract, kind by kind.
 -- Assumes nothing.
-use mathlib.Core.Path.{subst}
 use Rattle.fractions.proofs.Cases.{or_false}
 use Rattle.links.specs.Links.{in_f, in_r}
-use Rattle.tasks.specs.Figure2.{KindSized, link_step_of}
+use Rattle.tasks.specs.Figure2.{link_step_of}
 use Rattle.tasks.proofs.not_held.Goals as goal
 
 pub returns-in-Join : goal.returns-in-Join

@@ -1,8 +1,5 @@
 -- `tasks::probe_at` meets its contract, whether the session is in F or not.
 -- Assumes nothing.
-use mathlib.Core.Path.{subst, sym}
-use Rattle.links.specs.Links.{Workable}
-use Rattle.links.proofs.Sizes.{workable_mu}
 use Rattle.tasks.specs.Figure2.{probe_of}
 use Rattle.tasks.proofs.probe_at.Goals as goal
 
