@@ -97,7 +97,7 @@ module _ (d : Declared) (z : Fill) (run : Running d z) (l : Given) (small_word :
     next_at : (e : ℕ) → e < 64 → (s : ℕ) → s < 32
         → (T (w.on e s) → has s (get_or links'.at e 0) ≡ has s opens') × (T (not (w.on e s)) → has s (get_or links'.at e 0) ≡ 0)
     next_at e h s k = (
-      λ o. links-are.at e h s k ∙ rw ((run.at e h s k).0 o) (sym (turn.open_after s k)),
+      λ o. links-are.at e h s k ∙ rw ((run.at e h s k).0 o) (sym (turn.open_after_lem s k)),
       λ o. links-are.at e h s k ∙ rw ((run.at e h s k).1 o) (omega arith),
     )
 
@@ -256,7 +256,7 @@ module _ (d : Declared) (z : Fill) (run : Running d z) (l : Given) (small_word :
           rates = long;
           filling = next_filling;
           small = next_small;
-          declared = λ s h. omega (arith, run.declared s h, turn.open_after s h);
+          declared = λ s h. omega (arith, run.declared s h, turn.open_after_lem s h);
           at = next_at;
           last = next_last;
           room = λ e h p. next_room e h (omega (arith, links-are.small e h));
