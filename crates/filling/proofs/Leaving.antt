@@ -10,7 +10,7 @@ use native.Mathlib.Nat.{mul-le-mul_left}
 use native.Mathlib.Omega.{arith}
 use lib.Count.{ones}
 use lib.Dec.{T, eqb, eqb→eq, eqb_refl}
-use lib.ListN.{get_or, set}
+use lib.ListN.{get_or}
 use Rattle.sessions.specs.Set.{cut, has}
 use Rattle.sessions.proofs.Counts.{ones_pos}
 use Rattle.sessions.proofs.Members.{cut_le, has_cut_le, has_cut_other, has_cut_same, has_pos, has_zero}

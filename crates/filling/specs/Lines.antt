@@ -1,7 +1,7 @@
 -- The declared lines as a problem of max-min fair rates, the ranges that declarations keep to, and what the calculation answers (01, "The direct
 -- calculation").
 -- Assumes nothing: definitions.
-use Rattle.std.specs.Prelude.{Bool, List, ◌≡◌, ℕ, ◌*◌, ◌+◌, ◌<◌, ◌≤◌, T, eqb, get_or, length}
+use Rattle.std.specs.Prelude.{Bool, List, ◌≡◌, ℕ, ◌*◌, ◌<◌, ◌≤◌, T, eqb, get_or, length}
 use Rattle.fractions.specs.Fraction.{max_rate}
 use Rattle.sessions.specs.Set.{has}
 use Rattle.fairness.specs.Figure1.{any}

@@ -1,7 +1,6 @@
 -- `filling::join_path` meets its contract.
 -- Assumes nothing.
 use mathlib.Core.Path.{refl}
-use Prim.Native.Nat.{◌-◌}
 use native.Mathlib.Omega.{arith}
 use Rattle.filling.specs.Crossings.{words_of}
 use Rattle.filling.proofs.Crossings.{joins_all, joins_next, joins_none}

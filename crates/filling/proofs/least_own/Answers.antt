@@ -4,7 +4,6 @@ use mathlib.Core.Path.{◌≡◌, sym, ap, ◌∙◌, subst}
 use Prim.Native.Nat.{ℕ, ◌*◌, ◌^◌, ◌<◌, ◌≤◌}
 use native.Mathlib.Nat.{mul-le-mul}
 use native.Mathlib.Omega.{arith}
-use lib.ListN.{get_or}
 use Rattle.fractions.specs.Fraction.{max_rate}
 use Rattle.sessions.specs.Set.{has}
 use Rattle.sessions.proofs.Members.{has_cut_le, has_lt}

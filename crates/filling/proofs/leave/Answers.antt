@@ -1,12 +1,9 @@
 -- `filling::leave` meets its contract.
 -- Assumes nothing.
 use mathlib.Core.Logic.{inl, inr}
-use mathlib.Core.Path.{◌≡◌, refl, sym, ◌∙◌}
-use Prim.Native.Nat.{◌-◌, ◌<◌, ◌≤◌}
+use mathlib.Core.Path.{refl, sym, ◌∙◌}
 use native.Mathlib.Omega.{arith}
 use lib.Dec.{eqb_refl}
-use lib.ListN.{get_or}
-use Rattle.sessions.specs.Set.{has}
 use Rattle.sessions.proofs.Members.{is_in, is_out}
 use Rattle.fractions.proofs.Cases.{not_true, not-false}
 use Rattle.filling.specs.State.{links_of}

@@ -1,7 +1,6 @@
 -- `filling::leave_path` meets its contract.
 -- Assumes nothing.
 use mathlib.Core.Path.{refl}
-use Prim.Native.Nat.{◌-◌}
 use native.Mathlib.Omega.{arith}
 use Rattle.filling.specs.State.{links_of}
 use Rattle.filling.proofs.Leaving.{leavable_next, leaves_all, leaves_next, leaves_none}

@@ -3,7 +3,6 @@
 use mathlib.Core.Path.{sym}
 use native.Mathlib.Nat.{mul-le-mul}
 use native.Mathlib.Omega.{arith}
-use Rattle.sessions.specs.Set.{has}
 use Rattle.filling.specs.OneRound.{rate_after}
 use Rattle.filling.proofs.rate_after.Goals as goal
 

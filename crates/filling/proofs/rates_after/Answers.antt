@@ -1,12 +1,10 @@
 -- `filling::rates_after` meets its contract.
 -- Assumes nothing.
-use mathlib.Core.Path.{◌≡◌, refl, ◌∙◌}
+use mathlib.Core.Path.{refl, ◌∙◌}
 use Prim.Native.Nat.{◌<◌}
 use native.Mathlib.Omega.{arith}
 use lib.ListN.{get_or, length}
-use Rattle.sessions.specs.Set.{has}
 use Rattle.sessions.proofs.Walks.{next_below, next_has, next_less}
-use Rattle.filling.specs.OneRound.{rate_after}
 use Rattle.filling.proofs.Rates.{rate_still}
 use Rattle.filling.proofs.Visits.{visited_all, visited_none, visited_turn}
 use Rattle.filling.proofs.rates_after.Goals.{After-cut-left, After-next-s}
