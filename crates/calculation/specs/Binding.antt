@@ -1,6 +1,6 @@
 -- 02, §2: the binding place of a session, at the rates x s / N of the declared lines: what it is, and what it means.
 -- Assumes nothing: definitions.
-use Rattle.std.specs.Prelude.{Bool, ◌&&◌, cond, false, true, List, [], ◌∷◌, ◌⊎◌, ◌≡◌, ℕ, ◌+◌, ◌*◌, ◌<◌, eqb, leb, ltb, get_or}
+use Rattle.std.specs.Prelude.{Bool, ◌&&◌, cond, false, true, List, [], ◌∷◌, ◌⊎◌, ◌≡◌, ℕ, ◌*◌, ◌<◌, eqb, leb, ltb, get_or}
 use Rattle.fairness.specs.Figure1.{values}
 use Rattle.fairness.specs.MaxMin.{Bottleneck}
 use Rattle.fairness.proofs.Bottlenecks.{bottleneck_or_not}
