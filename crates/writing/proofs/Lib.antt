@@ -3,6 +3,7 @@ pub mod Appending
 pub mod Laying
 mod MoreRecords
 mod LaidOut
+mod Lowest
 pub mod Lengths
 pub mod Whole
 pub mod Paths

@@ -1,4 +1,6 @@
 // The records of a set of links and sessions (02, §3), written into a lent slice: links, then sessions, by rising number.
+#![tactic(auto)]
+
 ghost use Rattle.std.specs.Prelude.{◌≡◌, ℕ, ◌+◌, ◌≤◌, ◌<◌, ltb, get_or, length};
 ghost use Rattle.std.proofs.lemmas.List.Edits.{sets};
 ghost use Rattle.fairness.specs.Figure1.{values};
@@ -11,7 +13,7 @@ use declarations::Declared;
 use records::Refusal;
 
 // How many bytes were written, or why none were.
-#[derive(Drop)]
+#[derive(Clone, Copy)]
 pub enum Wrote {
     Bytes(usize),
     Refused { refusal: Refusal, place: usize },
