@@ -1,63 +1,59 @@
 // What `shares` prints for an input (01, "Examples"): every session's max-min fair rate and its binding place, or the refusal.
+#![tactic(auto)]
+
 use calculation::Calculated;
-use libc::STDOUT_FILENO;
 use records::Refusal;
+use std::io;
 
 // `refused N at P`, and nothing else.
-fn print_refusal(refusal: Refusal, place: usize) {
-    io::write_all(STDOUT_FILENO, b"refused ");
-    io::print_decimal(STDOUT_FILENO, records::number(refusal));
-    io::write_all(STDOUT_FILENO, b" at ");
-    io::print_decimal(STDOUT_FILENO, place as u64);
-    io::write_all(STDOUT_FILENO, b"\n");
+fn print_refusal(rt: &impl Print, refusal: Refusal, place: usize) -> io::Result<()> {
+    let number = records::number(refusal);
+    println!(rt; "refused {number} at {place}")
 }
 
 // How many links and sessions are declared.
-fn print_header(links: u64, sessions: u32) {
-    io::write_all(STDOUT_FILENO, b"links ");
-    io::print_decimal(STDOUT_FILENO, u64::count_ones(links) as u64);
-    io::write_all(STDOUT_FILENO, b" sessions ");
-    io::print_decimal(STDOUT_FILENO, sessions::size(sessions) as u64);
-    io::write_all(STDOUT_FILENO, b"\n");
+fn print_header(rt: &impl Print, links: u64, sessions: u32) -> io::Result<()> {
+    let declared = u64::count_ones(links);
+    let active = sessions::size(sessions);
+    println!(rt; "links {declared} sessions {active}")
 }
 
 // A session, its rate, and its binding place: "own" stands alone.
-fn print_session(t: u32, num: u64, den: u64, place: u64) {
-    io::print_decimal(STDOUT_FILENO, t as u64);
-    io::write_all(STDOUT_FILENO, b" ");
-    io::print_decimal(STDOUT_FILENO, num);
-    io::write_all(STDOUT_FILENO, b"/");
-    io::print_decimal(STDOUT_FILENO, den);
+fn print_session(rt: &impl Print, t: u32, num: u64, den: u64, place: u64) -> io::Result<()> {
     if place == calculation::OWN {
-        io::write_all(STDOUT_FILENO, b" own\n");
-        return;
+        return println!(rt; "{t} {num}/{den} own");
     }
-    io::write_all(STDOUT_FILENO, b" link ");
-    io::print_decimal(STDOUT_FILENO, place);
-    io::write_all(STDOUT_FILENO, b"\n");
+    println!(rt; "{t} {num}/{den} link {place}")
 }
 
 // The sessions by rising number.
-fn print_sessions(sessions: u32, nums: [u64; 32], dens: [u64; 32], places: [u64; 32]) {
+fn print_sessions(
+    rt: &impl Print,
+    sessions: u32,
+    nums: [u64; 32],
+    dens: [u64; 32],
+    places: [u64; 32],
+) -> io::Result<()> {
     let mut left = sessions;
     while left != 0 {
         let t = sessions::next(left);
         let i = t as usize;
-        print_session(t, nums[i], dens[i], places[i]);
+        print_session(rt, t, nums[i], dens[i], places[i])?;
         left = sessions::cut(left, t);
     }
+    Ok(())
 }
 
 // The text of the calculation of these records. What is written is no part of a contract.
-pub fn print(s: &[u8]) {
+pub fn print(rt: &impl Print, s: &[u8]) -> io::Result<()> {
     let mut nums = [0u64; 32];
     let mut dens = [0u64; 32];
     let mut places = [0u64; 32];
     match calculation::calculate(s, &mut nums, &mut dens, &mut places) {
-        Calculated::Refused { refusal, place } => print_refusal(refusal, place),
+        Calculated::Refused { refusal, place } => print_refusal(rt, refusal, place),
         Calculated::Done { links, sessions } => {
-            print_header(links, sessions);
-            print_sessions(sessions, nums, dens, places);
+            print_header(rt, links, sessions)?;
+            print_sessions(rt, sessions, nums, dens, places)
         }
     }
 }
