@@ -1,11 +1,13 @@
 // README's three ways to call the library from Rattle, on P2 (01, "Examples"): accepting.rt, settling.rt and carrying.rt are README's text.
+#![tactic(auto)]
+
 mod accepting;
 mod carrying;
 mod settling;
 
 use fractions::Rate;
-use libc::STDOUT_FILENO;
 use links::{Link, Place};
+use std::io;
 use tasks::{Eta, Kind};
 
 // P2: link 0 of 10, and session 0 over it with an access line of 100.
@@ -20,45 +22,45 @@ fn delivered() -> [u8; 18] {
     [5, 0, 0, 5, 0, 0, 5, 0, 0, 5, 0, 0, 5, 0, 0, 5, 0, 0]
 }
 
-fn say(text: &[u8], is_so: bool) {
-    io::write_all(STDOUT_FILENO, text);
-    if is_so {
-        io::write_all(STDOUT_FILENO, b": yes\n");
-    } else {
-        io::write_all(STDOUT_FILENO, b": no\n");
-    }
+fn say(rt: &impl Print, text: &str, is_so: bool) -> io::Result<()> {
+    let answer = if is_so { "yes" } else { "no" };
+    println!(rt; "{text}: {answer}")
 }
 
-fn accept() {
+fn accept(rt: &impl Print) -> io::Result<()> {
     let mut nums = [0u64; 32];
     let mut dens = [0u64; 32];
     let mut places = [0u64; 32];
     let p2 = declared();
     say(
-        b"accepted",
+        rt,
+        "accepted",
         accepting::is_accepted(&p2, &mut nums, &mut dens, &mut places),
-    );
+    )?;
     say(
-        b"accepted where a slice has no place",
+        rt,
+        "accepted where a slice has no place",
         accepting::is_accepted(&p2, &mut nums, &mut dens, &mut []),
-    );
+    )
 }
 
-fn settle() {
+fn settle(rt: &impl Print) -> io::Result<()> {
     let mut t = [0u64; 9153];
     let p2 = declared();
     say(
-        b"settled after the join",
+        rt,
+        "settled after the join",
         settling::is_settled_after(&mut t, &p2),
-    );
+    )?;
     let six = delivered();
     say(
-        b"settled after six deliveries",
+        rt,
+        "settled after six deliveries",
         settling::is_settled_after(&mut t, &six),
-    );
+    )
 }
 
-fn carry() {
+fn carry(rt: &impl Print) -> io::Result<()> {
     let none = lent::no_entries();
     let card = Place {
         link: Link {
@@ -69,11 +71,11 @@ fn carry() {
         entries: none,
     };
     let after = carrying::after_packet(card, 0, Kind::Join(Rate { num: 100, den: 1 }, Eta::Own));
-    say(b"session 0 in R after its Join", after.link.r == 1);
+    say(rt, "session 0 in R after its Join", after.link.r == 1)
 }
 
-fn main() {
-    accept();
-    settle();
-    carry();
+fn main(rt: HostRuntime) -> io::Result<()> {
+    accept(&rt)?;
+    settle(&rt)?;
+    carry(&rt)
 }

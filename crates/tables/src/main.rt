@@ -1,43 +1,43 @@
 // Plays a script from standard input: it makes tables, hands them to the machine, and prints what the machine says of each. The script is the file
 // `stdin`, which says what the commands are; the expected lines, in `stdout`, are written from 01.
+#![tactic(auto)]
+
 mod commands;
 mod names;
 mod says;
 mod scan;
 
-use bytes::scan::find;
-use libc::STDIN_FILENO;
 use says::text;
+use std::io;
 
 // An empty line and a comment say nothing. A line that is not understood, or that could not be done, is printed.
-fn line(t: &mut [u64; 9153], held: &mut [u64; 9153], l: &[u8]) {
-    if l.len() == 0 {
-        return;
+fn line(rt: &impl Print, t: &mut [u64; 9153], held: &mut [u64; 9153], l: &[u8]) -> io::Result<()> {
+    if l.is_empty() {
+        return Ok(());
     }
     if l[0] == b'#' {
-        return;
+        return Ok(());
     }
-    if !commands::play(t, held, l) {
-        text(b"not done: ");
-        text(l);
-        text(b"\n");
+    if !commands::play(rt, t, held, l)? {
+        rt.print("not done: ")?;
+        text(rt, l)?;
+        rt.println("")?;
     }
+    Ok(())
 }
 
 // The lines one after the other, from the empty table on.
-fn lines(script: &[u8]) {
+fn lines(rt: &impl Print, script: &[u8]) -> io::Result<()> {
     let mut t = [0u64; 9153];
     let mut held = [0u64; 9153];
-    let mut at: usize = 0;
-    while at < script.len() {
-        let end = find(script, at, script.len(), b'\n');
-        line(&mut t, &mut held, &script[at..end]);
-        at = end + 1;
+    for l in script.split(|b| *b == b'\n') {
+        line(rt, &mut t, &mut held, l)?;
     }
+    Ok(())
 }
 
-fn main() {
-    let mut script = io::large_buffer();
-    let n = io::read_full(STDIN_FILENO, &mut script);
-    lines(&script[..n]);
+fn main(rt: HostRuntime) -> io::Result<()> {
+    let mut script = commands::large_buffer();
+    let n = reading::read_full(&mut rt.stdin(), &mut script)?;
+    lines(&rt, &script[..n])
 }

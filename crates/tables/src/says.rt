@@ -1,68 +1,66 @@
 // What the machine says of a table: `taken N` or `taken N refused R at P`, and where it is asked `settled yes`, `settled no` or
 // `settled refused R at P`. A table that was to stay and did not is `changed`.
 use ends::Told;
-use libc::STDOUT_FILENO;
 use machine::{Session, SettledAnswer};
 use records::{End, Refusal};
+use std::io;
 
-pub fn text(s: &[u8]) {
-    io::write_all(STDOUT_FILENO, s);
+pub fn text(rt: &impl Print, s: &[u8]) -> io::Result<()> {
+    rt.write_all(s)
 }
 
 // A text and a number.
-pub fn number(name: &[u8], n: u64) {
-    io::write_all(STDOUT_FILENO, name);
-    io::print_decimal(STDOUT_FILENO, n);
+pub fn number(rt: &impl Print, name: &str, n: u64) -> io::Result<()> {
+    print!(rt; "{name}{n}")
 }
 
-fn refusal(r: Refusal, place: usize) {
-    number(b" refused ", records::number(r));
-    number(b" at ", place as u64);
+fn refusal(rt: &impl Print, r: Refusal, place: usize) -> io::Result<()> {
+    number(rt, " refused ", records::number(r))?;
+    number(rt, " at ", place as u64)
 }
 
 // How many records a run took, and how it ended.
-pub fn ran(taken: usize, end: End) {
-    number(b": taken ", taken as u64);
+pub fn ran(rt: &impl Print, taken: usize, end: End) -> io::Result<()> {
+    number(rt, ": taken ", taken as u64)?;
     match end {
-        End::Finished => {}
-        End::Refused { refusal: r, place } => refusal(r, place),
+        End::Finished => Ok(()),
+        End::Refused { refusal: r, place } => refusal(rt, r, place),
     }
 }
 
 // Whether the table is settled.
-pub fn settled(t: &[u64; 9153]) {
+pub fn settled(rt: &impl Print, t: &[u64; 9153]) -> io::Result<()> {
     let answer = machine::settled(t);
     match answer {
-        SettledAnswer::Yes => text(b" settled yes"),
-        SettledAnswer::No => text(b" settled no"),
+        SettledAnswer::Yes => rt.print(" settled yes"),
+        SettledAnswer::No => rt.print(" settled no"),
         SettledAnswer::Refused { refusal: r, place } => {
-            text(b" settled");
-            refusal(r, place);
+            rt.print(" settled")?;
+            refusal(rt, r, place)
         }
     }
 }
 
 // The rate last told.
-pub fn told(x: Session) {
+pub fn told(rt: &impl Print, x: Session) -> io::Result<()> {
     match x {
-        Session::NotActive => text(b" not active"),
+        Session::NotActive => rt.print(" not active"),
         Session::Active(y) => match y {
-            Told::Never => text(b" none"),
+            Told::Never => rt.print(" none"),
             Told::Rate(z) => {
-                number(b" rate ", z.num);
-                number(b"/", z.den);
+                number(rt, " rate ", z.num)?;
+                number(rt, "/", z.den)
             }
         },
     }
 }
 
 // The line ends, with `changed` where the table is another than it was to be.
-pub fn same(t: &[u64; 9153], expected: &[u64; 9153]) {
+pub fn same(rt: &impl Print, t: &[u64; 9153], expected: &[u64; 9153]) -> io::Result<()> {
     for i in 0..9153usize {
         if t[i] != expected[i] {
-            text(b" changed\n");
-            return;
+            return rt.println(" changed");
         }
     }
-    text(b"\n");
+    rt.println("")
 }

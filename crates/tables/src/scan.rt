@@ -2,7 +2,7 @@
 ghost use Rattle.std.specs.Prelude.{◌≤◌, length};
 
 // The word that a text starts with: its bytes as one number, the number that it writes, and where the text goes on behind the space after it.
-#[derive(Drop)]
+#[derive(Clone, Copy)]
 pub struct Leading {
     pub name: u64,
     pub number: u64,

@@ -1,33 +1,41 @@
 // Reads recorded inputs from standard input and prints for each a line with its number and sort, and then what `shares` or `steps` prints for it.
 // Each input is framed: a byte of sort, `c` for the calculation or `m` for the machine from the empty table, two bytes of length, big-endian, and
 // that many bytes of records. The first frame that is cut off or of another sort is the end. The expected text is the second implementation's.
-ghost use Rattle.std.specs.Prelude.{◌<◌};
+#![tactic(auto)]
 
-use libc::{STDIN_FILENO, STDOUT_FILENO};
+ghost use Rattle.std.specs.Prelude.{◌≡◌, ◌<◌, length};
+
+use std::io;
+use std::io::Read;
 
 // Nothing says that standard input ends, so the loop has an end of its own, far above the recorded inputs.
 const INPUTS: u64 = 1_000_000;
 
+// More than a length of two bytes can ask for.
+fn large_buffer() -> [u8; 65_536]
+    ensures { 65536 ≡ length result }
+{
+    [0; 65_536]
+}
+
 // `input N` and the sort.
-fn print_name(number: u64, sort: &[u8]) {
-    io::write_all(STDOUT_FILENO, b"input ");
-    io::print_decimal(STDOUT_FILENO, number);
-    io::write_all(STDOUT_FILENO, sort);
+fn print_name(rt: &impl Print, number: u64, sort: &str) -> io::Result<()> {
+    println!(rt; "input {number} {sort}")
 }
 
 // The text of one input; answers whether its sort is known.
-fn print_input(number: u64, sort: u8, s: &[u8]) -> bool {
+fn print_input(rt: &impl Print, number: u64, sort: u8, s: &[u8]) -> io::Result<bool> {
     if sort == b'c' {
-        print_name(number, b" calculation\n");
-        shares_text::print(s);
-        return true;
+        print_name(rt, number, "calculation")?;
+        shares_text::print(rt, s)?;
+        return Ok(true);
     }
     if sort == b'm' {
-        print_name(number, b" machine\n");
-        steps_text::print(s);
-        return true;
+        print_name(rt, number, "machine")?;
+        steps_text::print(rt, s)?;
+        return Ok(true);
     }
-    false
+    Ok(false)
 }
 
 // A number of two bytes, big-endian.
@@ -38,29 +46,38 @@ fn two_bytes(high: u8, low: u8) -> usize
 }
 
 // Fills the lent slice with records and prints their text; answers whether there may be another input.
-fn take_records(number: u64, sort: u8, records: &mut [u8]) -> bool {
-    let got = io::read_full(STDIN_FILENO, records);
+fn take_records<R: Read>(
+    reader: &mut R,
+    rt: &impl Print,
+    number: u64,
+    sort: u8,
+    records: &mut [u8],
+) -> io::Result<bool> {
+    let got = reading::read_full(reader, records)?;
     if got < records.len() {
-        return false;
+        return Ok(false);
     }
-    print_input(number, sort, records)
+    print_input(rt, number, sort, records)
 }
 
 // Reads the sort and the length, and then so many bytes of records.
-fn take_input(number: u64) -> bool {
+fn take_input<R: Read>(reader: &mut R, rt: &impl Print, number: u64) -> io::Result<bool> {
     let mut head = [0u8; 3];
-    let got = io::read_full(STDIN_FILENO, &mut head);
+    let got = reading::read_full(reader, &mut head)?;
     if got < 3 {
-        return false;
+        return Ok(false);
     }
     let n = two_bytes(head[1], head[2]);
-    let mut input = io::large_buffer();
-    take_records(number, head[0], &mut input[..n])
+    let mut input = large_buffer();
+    take_records(reader, rt, number, head[0], &mut input[..n])
 }
 
-fn main() {
-    let mut number = 0;
-    while number < INPUTS && take_input(number) {
-        number += 1;
+fn main(rt: HostRuntime) -> io::Result<()> {
+    let mut stdin = rt.stdin();
+    for number in 0..INPUTS {
+        if !take_input(&mut stdin, &rt, number)? {
+            break;
+        }
     }
+    Ok(())
 }
