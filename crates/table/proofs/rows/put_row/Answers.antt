@@ -1,8 +1,7 @@
 -- `table::put_row` meets its contract.
 -- Assumes nothing.
-use mathlib.Core.Path.{◌≡◌, refl, sym, ◌∙◌}
-use Prim.Native.Nat.{◌*◌, ◌+◌, ◌-◌}
-use lib.ListN.{length}
+use mathlib.Core.Path.{refl, sym, ◌∙◌}
+use Prim.Native.Nat.{◌*◌, ◌+◌}
 use native.Mathlib.Omega.{arith}
 use Rattle.table.specs.Words.{put_row}
 use Rattle.table.proofs.Loops.{put_turn, put_end}

@@ -1,10 +1,8 @@
 -- `table::row_at` meets its contract.
 -- Assumes nothing.
 use mathlib.Core.Path.{◌∙◌}
-use Prim.Native.Nat.{◌*◌, ◌+◌, ◌-◌}
-use lib.Seq.{paste-zero}
 use native.Mathlib.Omega.{arith}
-use Rattle.table.specs.Words.{row_of, entries_from}
+use Rattle.table.specs.Words.{row_of}
 use Rattle.table.proofs.Loops.{row_turn, row_end}
 use Rattle.table.proofs.rows.row_at.Goals as goal
 
