@@ -1,0 +1,12 @@
+-- `conditions::is_told` meets its contract.
+-- Assumes nothing.
+use mathlib.Core.Path.{subst}
+use Rattle.links.proofs.Sizes.{to_limit}
+use Rattle.table.specs.Values.{ToldInRange}
+use Rattle.conditions.proofs.is_told.Goals as goal
+
+pub same-requires : goal.same-requires
+same-requires c = (to_limit (subst ToldInRange c.in-Rate.is c.requires.0), to_limit c.requires.1)
+
+pub returns-in-Rate : goal.returns-in-Rate
+returns-in-Rate c = rw c.in-Rate.is c.same.ensures

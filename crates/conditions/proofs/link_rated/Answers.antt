@@ -1,0 +1,66 @@
+-- `conditions::link_rated` meets its contract: the first test that settles it.
+-- Assumes nothing.
+use mathlib.Core.Path.{ap, subst, sym, ◌∙◌, ◌≡◌}
+use Prim.Native.Nat.{ℕ, ◌≤◌}
+use borrow.Author.Tests.{eq-eqb, ne_eqb}
+use lib.Bits.{bit_or}
+use Rattle.fractions.specs.Fraction.{max_rate}
+use Rattle.links.specs.declared.Bound.{Bound}
+use Rattle.links.specs.declared.Link.{Link}
+use Rattle.links.specs.Links.{B, BoundSized, R, TotalSized}
+use Rattle.links.proofs.Sizes.{b_sized, sum_sized}
+use Rattle.sessions.proofs.Counts.{count_most}
+use Rattle.table.specs.Words.{link_of, place_of}
+use Rattle.table.proofs.InRange.{capacity_most}
+use Rattle.table.proofs.Workables.{place_workable}
+use Rattle.conditions.specs.Settled.{is_at_most_c, link_rated, members_rated, sum_rated}
+use Rattle.conditions.proofs.LinkByWords.{empty_rated}
+use Rattle.conditions.proofs.link_rated.Goals.{After-bound_from-b}
+use Rattle.conditions.proofs.link_rated.Goals as goal
+
+-- the B that was found is the link's
+is_b : (c : After-bound_from-b) → c.bound_from-b.result ≡ B (place_of c.args.t.now c.args.e)
+unfolding B
+is_b c = rw (← c.sum_at-total.ensures.exact, ← c.link_at-l.ensures, ← c.size.ensures) c.bound_from-b.ensures.exact
+
+pub returns-then-held-eq0 : goal.returns-then-held-eq0
+returns-then-held-eq0 c =
+    let a = c.args in
+    sym (empty_rated a.t.now a.e (ap (λ (l : Link). bit_or l.r l.f) (sym c.link_at-l.ensures) ∙ c.if-held-eq0.true))
+
+pub bound_from-b-requires : goal.bound_from-b-requires
+bound_from-b-requires c =
+    let a = c.args in
+    let q = sym c.link_at-l.ensures in
+    let y = c.sum_at-total in (
+      subst (λ (l : Link). l.capacity ≤ max_rate) q (capacity_most a.t.now a.e),
+      subst (λ (n : ℕ). n ≤ 32) (sym c.size.ensures) (count_most 32 _),
+      subst (λ (l : Link). TotalSized l.capacity y.result) q
+          (subst (TotalSized (link_of a.t.now a.e).capacity) (sym y.ensures.exact) (sum_sized (place_of a.t.now a.e) (place_workable a.t.now a.e))),
+    )
+
+pub members_rated-requires : goal.members_rated-requires
+members_rated-requires c = (c.requires, subst BoundSized (sym (is_b c)) (b_sized (place_of c.args.t.now c.args.e) (place_workable c.args.t.now c.args.e)))
+
+pub returns-then-not-members_rated : goal.returns-then-not-members_rated
+unfolding link_rated
+returns-then-not-members_rated c =
+    let p = place_of c.args.t.now c.args.e in
+    let m = sym (c.members_rated.ensures ∙ ap (λ (x : Bound). members_rated x p) (is_b c.before.before)) ∙ c.if-not-members_rated.true in
+    rw m
+
+pub returns-then-l-ne0 : goal.returns-then-l-ne0
+unfolding link_rated sum_rated
+returns-then-l-ne0 c =
+    let p = place_of c.args.t.now c.args.e in
+    let m = sym (c.members_rated.ensures ∙ ap (λ (x : Bound). members_rated x p) (is_b c.before.before.before.before)) ∙ c.if-not-members_rated.false in
+    let r = ne_eqb (R p) 0 (λ z. c.if-l-ne0.true (ap (λ (l : Link). l.r) c.link_at-l.ensures ∙ z)) in
+    rw (m, r)
+
+pub returns : goal.returns
+unfolding link_rated sum_rated
+returns c =
+    let p = place_of c.args.t.now c.args.e in
+    let m = sym (c.members_rated.ensures ∙ ap (λ (x : Bound). members_rated x p) (is_b c.before.before.before.before.before)) ∙ c.if-not-members_rated.false in
+    let r = eq-eqb (R p) 0 (sym (ap (λ (l : Link). l.r) c.link_at-l.ensures) ∙ c.if-l-ne0.false) in
+    rw (m, r) (c.is_at_most_c.ensures ∙ ap is_at_most_c c.sum_at-total.ensures.exact)
