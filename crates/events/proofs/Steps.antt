@@ -1,11 +1,11 @@
 -- Each way out of a step, from what its calls answered.
 -- Assumes nothing.
-use mathlib.Core.Bool.{Bool, cond, false, not, true, ◌&&◌}
+use mathlib.Core.Bool.{Bool, cond, false, not, true}
 use mathlib.Core.List.{List}
-use mathlib.Core.Path.{◌≡◌, ap, ap₂, subst, sym, ◌∙◌}
+use mathlib.Core.Path.{◌≡◌, ap, ap₂, sym, ◌∙◌}
 use Prim.Native.Nat.{ℕ, ◌+◌, ◌-◌, ◌≤◌, ◌<◌}
 use borrow.Author.Tests.{le-ltb, lt-ltb}
-use lib.Dec.{eqb, ltb}
+use lib.Dec.{ltb}
 use Rattle.ends.specs.declared.Source.{Source}
 use Rattle.ends.specs.declared.SourceDid.{SourceDid}
 use Rattle.ends.specs.Figure3.{changing_of, joining_of, leaving_of, source_step_of}
