@@ -1,5 +1,5 @@
 /* Umbraconga for C: exact max-min fair rates, and the B-Neck machine on a table of words that the caller owns.
- * Link with the archive that `rt staticlib exports` writes, target/staticlib/libexports.a. Every call takes every input and ends. A refusal is
+ * Link with the archive that `rt lib` in crates/exports writes, crates/exports/out/libexports.a. Every call takes every input and ends. A refusal is
  * reported by its number (README.md has the table), and what is refused changes nothing: a calculation and `umbraconga_records` write no slice, a run
  * leaves the table as it was before the refused record. No call allocates, prints or keeps anything. What is handed to one call must be valid for as
  * many elements as the call names, not null even where a length is 0, aligned, and must not overlap.

@@ -1,7 +1,7 @@
 //! Exact max-min fair rates, and the B-Neck protocol as a machine that takes one packet at a time.
 //!
 //! This is the proved library's face for Rust: every function here calls one entry point of the
-//! static library that `rt staticlib exports` writes, and turns its report into Rust's types. The
+//! static library that `rt lib` in `crates/exports` writes, and turns its report into Rust's types. The
 //! bytes of the records, the limits and the numbers of the refusals are described in the
 //! repository's README.
 //!
