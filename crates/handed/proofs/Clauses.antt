@@ -19,7 +19,7 @@ use Rattle.table.specs.Words.{count_of, hop_of, hops_of, link_of, packet_of, pla
 use Rattle.tasks.specs.Packets.{goes_down, is_leave}
 use Rattle.handed.specs.Handed.{apart, entries_in_range, entries_live, entries_on_path, entry_in_range, entry_live, entry_on_path, has_joined, hop_on_path, leave_ahead, leave_to_come, links_in_range, packet_on_its_way, packet_on_path, packets_in_range, packets_on_path, packets_on_their_way, path_declared, path_once, paths_declared, paths_once, row_apart, row_in_range, row_live, row_on_path, session_apart, source_in_range, sources_in_range, stop_declared, stop_new, sum_fits, sums_fit}
 use Rattle.handed.specs.Passes.{LeaveToCome}
-use Rattle.handed.proofs.Ways.{both_not, cond_else, cond_then, hop_down, hop_on, hop_up, not_both, same_way, way_same, within, within_test}
+use Rattle.handed.proofs.Ways.{both_not, cond_else, cond_then, hop_down, hop_on, hop_up, not_both, same_way_lem, way_same, within, within_test}
 
 -- FIELDS AND RATES ----------------------------------------------------------------------------------------------------
 
@@ -153,7 +153,7 @@ way_means w h i l = way_same (packet_of w i).down (goes_down (packet_of w i).kin
 
 pub way_test : (w : List ℕ) → ((i : ℕ) → i < count_of w → (packet_of w i).down ≡ goes_down (packet_of w i).kind) → packets_on_their_way w ≡ true
 unfolding packets_on_their_way packet_on_its_way
-way_test w f = all_below (count_of w) (packet_on_its_way w) (λ i l. same_way (packet_of w i).down (goes_down (packet_of w i).kind) (f i l))
+way_test w f = all_below (count_of w) (packet_on_its_way w) (λ i l. same_way_lem (packet_of w i).down (goes_down (packet_of w i).kind) (f i l))
 
 -- LINKS AND ENTRIES ---------------------------------------------------------------------------------------------------
 

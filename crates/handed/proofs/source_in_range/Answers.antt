@@ -1,0 +1,24 @@
+-- `handed::source_in_range` meets its contract.
+-- Assumes nothing.
+use mathlib.Core.Path.{sym, ◌∙◌}
+use borrow.Author.Tests.{le-ltb, lt-ltb}
+use Rattle.handed.specs.Handed.{has_joined, source_in_range}
+use Rattle.handed.proofs.source_in_range.Goals as goal
+
+pub returns-then-not-standing_fits : goal.returns-then-not-standing_fits
+unfolding source_in_range
+returns-then-not-standing_fits c =
+    let d = sym c.standing_fits.ensures ∙ c.if-not-standing_fits.true in
+    rw d
+
+pub returns-then-n-gt0 : goal.returns-then-n-gt0
+unfolding source_in_range has_joined
+returns-then-n-gt0 c =
+    let d = sym c.standing_fits.ensures ∙ c.if-not-standing_fits.false in
+    rw (d, ← c.hops_at-n.ensures, lt-ltb _ _ c.if-n-gt0.true) c.source_fits.ensures
+
+pub returns : goal.returns
+unfolding source_in_range has_joined
+returns c =
+    let d = sym c.standing_fits.ensures ∙ c.if-not-standing_fits.false in
+    rw (d, ← c.hops_at-n.ensures, le-ltb _ _ c.if-n-gt0.false, ← c.active_at.ensures)
