@@ -1,4 +1,6 @@
 // The present set of a table: its links and active sessions as declarations, and the call that writes their records (02, §3).
+#![tactic(auto)]
+
 ghost use Rattle.std.specs.Prelude.{cond, ◌≡◌, ◌/◌, ◌%◌, ◌<◌, ltb};
 ghost use Rattle.fairness.specs.Figure1.{values};
 ghost use Rattle.sessions.specs.Set.{put};
