@@ -7,13 +7,10 @@ use Prim.Native.Nat.{ℕ, ◌≤◌, ◌<◌}
 use borrow.Author.Tests.{le-ltb, lt-ltb}
 use lib.Dec.{ltb}
 use lib.ListN.{length}
-use native.Mathlib.Omega.{arith}
-use Rattle.conditions.specs.Conditions.{FiveConditions}
 use Rattle.conditions.specs.Settled.{settled_of}
 use Rattle.conditions.proofs.Means.{means_settled, settled_means}
 use Rattle.fractions.proofs.Cases.{chosen}
 use Rattle.handed.specs.Handed.{passes14_of}
-use Rattle.handed.specs.Passes.{Passes}
 use Rattle.handed.proofs.Passing.{means_passes, passes_means}
 use Rattle.records.specs.declared.Refusal.TheVariants as refusal
 use Rattle.records.specs.Run as records
