@@ -80,8 +80,8 @@ module _ (w : List ℕ) (i : ℕ) (o : Safe w) (h : i < count_of w) where
             (not_true (same_lane q p) (all_at i (λ j. not (same_lane (packet_of w j) (packet_of w i))) j t l));
       }
 
-  pub rest_ok_lem : Every (PacketOk w) (rest w i)
-  rest_ok_lem = each_other w i h (PacketOk w) o.packets
+  pub rest_ok : Every (PacketOk w) (rest w i)
+  rest_ok = each_other w i h (PacketOk w) o.packets
 
   pub fewer : count_of (removed w i) ≡ count_of w - 1
   fewer = count_removed w i o.fits.long

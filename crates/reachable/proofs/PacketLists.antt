@@ -11,6 +11,7 @@ use Rattle.reachable.specs.Invariant.{Every, Some, also, here, later, none}
 
 module _ {P : Packet → Type 0} where
   pub some_left : (xs ys : List Packet) → Some P xs → Some P (xs ++ ys)
+  some_left [] ys u = elim u [ ]
   some_left (x ∷ xs) ys (here p) = here p
   some_left (x ∷ xs) ys (later u) = later (some_left xs ys u)
 
@@ -52,11 +53,13 @@ module _ {P : Packet → Type 0} where
   every_without (y ∷ xs) x ys (also p u) = also p (every_without xs x ys u)
 
   pub no_packet : (xs : List Packet) → length xs ≡ 0 → Some P xs → ⊥
+  no_packet [] e u = elim u [ ]
   no_packet (x ∷ xs) e (here p) = omega arith
   no_packet (x ∷ xs) e (later u) = omega arith
 
   -- what no packet is, none of them is
   pub none_some : (xs : List Packet) → Every (λ q. P q → ⊥) xs → Some P xs → ⊥
+  none_some [] v u = elim u [ ]
   none_some (x ∷ xs) (also n u) (here p) = n p
   none_some (x ∷ xs) (also n u) (later v) = none_some xs u v
 
@@ -77,6 +80,7 @@ module _ {P : Packet → Type 0} (z : Packet) where
   some_index (x ∷ xs) (suc j) l p = later (some_index xs j (omega arith) p)
 
   pub some_at : (xs : List Packet) → Some P xs → (j : ℕ) × (j < length xs) × P (get_or xs j z)
+  some_at [] u = elim u [ ]
   some_at (x ∷ xs) (here p) = (0, omega arith, p)
   some_at (x ∷ xs) (later u) = let r = some_at xs u in (suc r.0, omega (arith, r.1), r.2)
 
@@ -90,5 +94,6 @@ module _ {P Q : Packet → Type 0} where
   every_map (x ∷ xs) f (also p u) = also (f x p) (every_map xs f u)
 
   pub some_map : (xs : List Packet) → ((q : Packet) → P q → Q q) → Some P xs → Some Q xs
+  some_map [] f u = elim u [ ]
   some_map (x ∷ xs) f (here p) = here (f x p)
   some_map (x ∷ xs) f (later u) = later (some_map xs f u)
