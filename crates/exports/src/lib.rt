@@ -1,5 +1,7 @@
 // The library's entry points for Rust and C (include/umbraconga.h): each calls the entry point of its name and writes its answer as the documents' numbers.
 // They take every input: a table or a slice that is turned away is reported by its number and left as it was.
+#![tactic(auto)]
+
 ghost use Rattle.std.specs.Prelude.{◌≡◌};
 ghost use Rattle.calculation.specs.Calculating.{calculate_of};
 ghost use Rattle.machine.specs.Machine.{answer_of, machine_of, session_of, session_report_of, told_report_of};
