@@ -1,17 +1,8 @@
 // The commands of a script. Each function answers whether the line is a command that it knows and could do.
-ghost use Rattle.std.specs.Prelude.{◌≡◌, length};
-
 use super::says::text;
 use super::{names, says, scan};
 use records::End;
 use std::io;
-
-// As long as the longest input of a script, and the longest script.
-pub fn large_buffer() -> [u8; 65_536]
-    ensures { 65536 ≡ length result }
-{
-    [0; 65_536]
-}
 
 // Each place of the list of packets takes the words of the one before it, so the first packet stands at all 256.
 fn fill(t: &mut [u64; 9153]) {
@@ -73,7 +64,7 @@ fn play_input(
 
 // `take RECORDS`, `run RECORDS`.
 fn play_records(rt: &impl Print, t: &mut [u64; 9153], name: u64, more: &[u8]) -> io::Result<bool> {
-    let mut input = large_buffer();
+    let mut input = reading::large_buffer();
     let n = scan::records(more, &mut input);
     play_input(rt, t, name, &input, n)
 }
@@ -116,7 +107,7 @@ fn play_number(rt: &impl Print, t: &mut [u64; 9153], name: u64, more: &[u8]) -> 
     }
     let at = x.number as usize;
     if name == names::ZEROS && rest.is_empty() {
-        let input = large_buffer();
+        let input = reading::large_buffer();
         return play_input(rt, t, names::RUN, &input, at);
     }
     if name == names::PUT {

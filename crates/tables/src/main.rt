@@ -37,7 +37,7 @@ fn lines(rt: &impl Print, script: &[u8]) -> io::Result<()> {
 }
 
 fn main(rt: HostRuntime) -> io::Result<()> {
-    let mut script = commands::large_buffer();
+    let mut script = reading::large_buffer();
     let n = reading::read_full(&mut rt.stdin(), &mut script)?;
     lines(&rt, &script[..n])
 }

@@ -3,20 +3,13 @@
 // that many bytes of records. The first frame that is cut off or of another sort is the end. The expected text is the second implementation's.
 #![tactic(auto)]
 
-ghost use Rattle.std.specs.Prelude.{◌≡◌, ◌<◌, length};
+ghost use Rattle.std.specs.Prelude.{◌<◌};
 
 use std::io;
 use std::io::Read;
 
 // Nothing says that standard input ends, so the loop has an end of its own, far above the recorded inputs.
 const INPUTS: u64 = 1_000_000;
-
-// More than a length of two bytes can ask for.
-fn large_buffer() -> [u8; 65_536]
-    ensures { 65536 ≡ length result }
-{
-    [0; 65_536]
-}
 
 // `input N` and the sort.
 fn print_name(rt: &impl Print, number: u64, sort: &str) -> io::Result<()> {
@@ -68,7 +61,7 @@ fn take_input<R: Read>(reader: &mut R, rt: &impl Print, number: u64) -> io::Resu
         return Ok(false);
     }
     let n = two_bytes(head[1], head[2]);
-    let mut input = large_buffer();
+    let mut input = reading::large_buffer();
     take_records(reader, rt, number, head[0], &mut input[..n])
 }
 
