@@ -13,6 +13,7 @@ use Rattle.fractions.proofs.Cases.{last}
 use Rattle.sessions.specs.Set.{has, has_of, put}
 use Rattle.sessions.proofs.Members.{has_put_other, has_put_same, has_zero, is_in, is_out, member_below, out_is, put_lt, same_members}
 use Rattle.fairness.specs.Figure1.{values}
+use Rattle.records.specs.Limits.{above_line}
 use Rattle.records.specs.declared.Call.TheVariants as call
 use Rattle.records.specs.declared.End.TheVariants as end
 use Rattle.records.specs.declared.Record.TheVariants as rec
@@ -199,13 +200,14 @@ module _ (d : Declared) (ok : Declarable d) (s : List ℕ) where
       let small = (path_size_lem d.path (b * 8) size (ok.path b h m)).1 in
       let path = path_same s (at + 11) d.path (b * 8) bytes size small ∙ ok.path b h m in
       let out = out_is z.sessions b (r.new b (omega arith)) in
+      let line : above_line access maximum ≡ false = ok.line b h m in
       let known : path_declared z.links s (at + 11) size ≡ true =
       ap (λ (v : ℕ). path_declared v s (at + 11) size) (sym r.links)
       ∙ declared_same s (at + 11) d.path (b * 8) bytes d.links size small
       ∙ ok.declared b h m in
       record {
         what = rec.Session b access maximum size (at + 11);
-        taken = rw (session_read s at b access maximum size (byte_at d.path b) there call.Calculation h (ok.access b h m) (ok.maximum b h m) path, out, ok.line b h m, known) refl;
+        taken = rw (session_read s at b access maximum size (byte_at d.path b) there call.Calculation h (ok.access b h m) (ok.maximum b h m) path, out, line, known) refl;
         long = session_size s at b access maximum size (byte_at d.path b) there;
         some = omega arith;
         fits = there.fits;

@@ -1,6 +1,8 @@
 -- `events::deliver` meets its contract: refusal 11, or the packet arrives.
 -- Assumes nothing.
-use mathlib.Core.Path.{subst, sym}
+use mathlib.Core.Bool.{false, true}
+use mathlib.Core.Path.{subst, sym, ◌∙◌, ◌≡◌}
+use Rattle.sending.specs.Sending.{in_turn_of}
 use native.Mathlib.Omega.{arith}
 use borrow.Author.Tests.{le-ltb, lt-ltb}
 use Prim.Native.Nat.{ℕ, ◌≤◌, ◌<◌}
@@ -19,7 +21,9 @@ in_turn-requires c = let h : c.count-n.result ≤ 256 = subst (λ (n : ℕ). n �
 
 pub returns-then-not-in_turn : goal.returns-then-not-in_turn
 unfolding deliver_of
-returns-then-not-in_turn c = rw (← c.count-n.ensures, lt-ltb _ _ c.if-n-i.false, ← c.in_turn.ensures, c.if-not-in_turn.true)
+returns-then-not-in_turn c =
+    let out_of_turn : in_turn_of c.args.t.now c.args.i ≡ false = sym c.in_turn.ensures ∙ c.if-not-in_turn.true in
+    rw (← c.count-n.ensures, lt-ltb _ _ c.if-n-i.false, out_of_turn)
 
 pub packet_at-p-requires : goal.packet_at-p-requires
 packet_at-p-requires c = let h : c.count-n.result ≤ 256 = subst (λ (n : ℕ). n ≤ 256) (sym c.count-n.ensures) (count_most _) in
@@ -30,4 +34,6 @@ arrive-requires c = (subst (λ (n : ℕ). c.args.i < n) c.count-n.ensures c.if-n
 
 pub returns : goal.returns
 unfolding deliver_of
-returns c = rw (← c.count-n.ensures, lt-ltb _ _ c.if-n-i.false, ← c.in_turn.ensures, c.if-not-in_turn.false, ← c.packet_at-p.ensures) c.arrive.ensures
+returns c =
+    let in_turn : in_turn_of c.args.t.now c.args.i ≡ true = sym c.in_turn.ensures ∙ c.if-not-in_turn.false in
+    rw (← c.count-n.ensures, lt-ltb _ _ c.if-n-i.false, in_turn, ← c.packet_at-p.ensures) c.arrive.ensures

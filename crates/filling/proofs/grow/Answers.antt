@@ -24,7 +24,7 @@ less c =
 
 pub returns-then-by-eq1 : goal.returns-then-by-eq1
 returns-then-by-eq1 c =
-    let q = c.if-by-eq1.true in
+    let q : c.args.by ≡ 1 = c.if-by-eq1.true in
     record { long = refl; at = λ e h m. rw q (omega arith); other = λ e h m. refl }
 
 pub loop-left-init : goal.loop-left-init

@@ -1,6 +1,6 @@
 -- `machine::run_records` meets its contract: what is left to run comes to the whole.
 -- Assumes nothing.
-use mathlib.Core.Path.{sym, ◌∙◌}
+use mathlib.Core.Path.{sym, ◌∙◌, ◌≡◌}
 use native.Mathlib.Omega.{arith}
 use Prim.Native.Nat.{◌-◌, ◌+◌, ◌≤◌, ◌<◌}
 use lib.ListN.{length}
@@ -8,7 +8,7 @@ use native.Mathlib.Nat.{sub-zero}
 use Rattle.records.specs.declared.Call.TheVariants as call
 use Rattle.records.proofs.Runs.{run_end}
 use Rattle.machine.specs.Machine.{acting, judging, run_records_of}
-use Rattle.machine.proofs.Turns.{turn_ends, turn_refused, turn_taken}
+use Rattle.machine.proofs.Turns.{going, turn_ends, turn_refused, turn_taken}
 use Rattle.machine.proofs.run_records.Goals.{After-size_at-at}
 use Rattle.machine.proofs.run_records.Goals as goal
 
@@ -34,11 +34,11 @@ pub loop-at-smaller : goal.loop-at-smaller
 loop-at-smaller c = omega (arith, ends c)
 
 pub loop-at-preserved : goal.loop-at-preserved
-loop-at-preserved c = (
-  omega (arith, ends c),
-  omega (arith, ends c),
-  rw c.size_at-at.ensures.0 (sym (turn_taken c.args.s.now c.loop-at.t c.step-v.new.t c.loop-at.n c.loop-at.at c.step-v.result c.loop-at.invariant.0 c.loop-at-test.true c.step-v.ensures c.in-Taken.is) ∙ c.loop-at.invariant.2),
-)
+loop-at-preserved c =
+    let s = c.args.s.now in
+    let l = c.loop-at in
+    let next : going s (length s - (l.n + 1)) c.step-v.new.t (l.n + 1) (l.at + c.size_at-at.result) ≡ run_records_of c.args.t.now s = rw c.size_at-at.ensures.0 (sym (turn_taken c.args.s.now c.loop-at.t c.step-v.new.t c.loop-at.n c.loop-at.at c.step-v.result c.loop-at.invariant.0 c.loop-at-test.true c.step-v.ensures c.in-Taken.is) ∙ c.loop-at.invariant.2) in
+    (omega (arith, ends c), omega (arith, ends c), next)
 
 pub returns-in-Refused : goal.returns-in-Refused
 returns-in-Refused c = sym (turn_refused c.args.s.now c.loop-at.t c.step-v.new.t c.loop-at.n c.loop-at.at c.step-v.result c.loop-at.invariant.0 c.loop-at-test.true c.step-v.ensures _ c.in-Refused.is) ∙ c.loop-at.invariant.2
