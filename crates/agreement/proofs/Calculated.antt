@@ -1,6 +1,7 @@
 -- Rates of a table that answer the problem of some declarations are what the calculation gives for these: what its definition says, and what
 -- `calculate` writes for an input with these declarations.
 -- Assumes nothing.
+use Rattle.std.specs.Prelude.{Ok}
 use mathlib.Core.Bool.{true}
 use mathlib.Core.List.{List}
 use mathlib.Core.Path.{◌≡◌, ap₂, refl, sym, ◌∙◌}
@@ -9,7 +10,6 @@ use borrow.Author.Tests.{eqb-true}
 use Rattle.calculation.proofs.Outcomes.{ordered_of}
 use Rattle.calculation.proofs.SameResults.{active}
 use Rattle.calculation.specs.Calculating.{calculate_of, results_of}
-use Rattle.calculation.specs.declared.Calculated.TheVariants as calculated
 use Rattle.fairness.proofs.Answers.{answer_unique, figure1_answer}
 use Rattle.fairness.proofs.Running.{values_at}
 use Rattle.fairness.specs.Answer.{Answer, figure1_rate}
@@ -39,12 +39,12 @@ pub same_as_calculated : (d : Declared) (w : List ℕ) → Declares d w → Answ
     → (s : ℕ) → s < 32 → (source_of w s).active ≡ true → (source_of w s).rate ≡ calculated_rate d s
 same_as_calculated d w l a s h m = answer_calculated d (λ s. (source_of w s).rate) a s h (l.active s h ∙ m)
 
-module _ (s nums dens places : List ℕ) (links sessions : ℕ) (done : (calculate_of s nums dens places).answer ≡ calculated.Done links sessions) where
+module _ (s nums dens places : List ℕ) (links sessions : ℕ) (done : (calculate_of s nums dens places).answer ≡ Ok (record { links = links; sessions = sessions })) where
   -- and what `calculate` writes for the sessions that an accepted input declares
   pub calculate_writes : (t : ℕ) → t < 32 → has_of t (declarations_of s).declared.sessions ≡ true
       → written_rate (calculate_of s nums dens places) t ≡ calculated_rate (declarations_of s).declared t
   calculate_writes t h m =
       let o = calculate_of s nums dens places in
       answer_calculated (declarations_of s).declared (written_rate o)
-      (ordered_of s nums dens places (calculated.Done links sessions) o.nums o.dens (sym done) refl refl)
+      (ordered_of s nums dens places (Ok (record { links = links; sessions = sessions })) o.nums o.dens (sym done) refl refl)
       t h m

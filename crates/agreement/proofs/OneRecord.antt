@@ -9,7 +9,7 @@ use borrow.Author.Tests.{le-ltb, lt-ltb, ltb-false, ne_eqb}
 use lib.ListN.{get_or}
 use Rattle.fractions.specs.Fraction.{whole_of}
 use Rattle.fractions.proofs.Ranges.{whole_within}
-use Rattle.records.specs.Format.{RecordOk}
+use Rattle.records.specs.Format.{a_session, RecordOk}
 use Rattle.records.specs.Limits.{above_line}
 use Rattle.records.specs.declared.Record.{Record}
 use Rattle.records.specs.declared.Record.TheVariants as rec
@@ -76,17 +76,17 @@ after_join s w t a m n at = appended_all (put_source (put_hops (put_path w t s a
 
 -- the record of session t is taken, and the session has joined, by the source and the path that the record gives
 pub record TakesSession (s w : List ℕ) (t a m n at : ℕ) : Type 0 where
-  pub does : event_of s w (rec.Session t a m n at) ≡ taking (after_join s w t a m n at)
+  pub does : event_of s w (a_session t a m n at) ≡ taking (after_join s w t a m n at)
   pub safe : Safe (after_join s w t a m n at)
   pub joined : Joined w t (whole_of (D (joiner a m))) (after_join s w t a m n at)
   pub route : Route (after_join s w t a m n at) t (joiner a m) s at n
 
 join_does : (s w : List ℕ) (t a m n at : ℕ) → (source_of w t).active ≡ false → above_line a m ≡ false → path_declared_in w s at n ≡ true
-    → none_of w t (count_of w) ≡ true → count_of w < 256 → event_of s w (rec.Session t a m n at) ≡ taking (after_join s w t a m n at)
+    → none_of w t (count_of w) ≡ true → count_of w < 256 → event_of s w (a_session t a m n at) ≡ taking (after_join s w t a m n at)
 unfolding event_of join_of source_sends joining_of appended_all
 join_does s w t a m n at i l p q h = rw (i, l, p, q, le-ltb 256 (count_of w + 1) (omega arith)) refl
 
-module _ (s w : List ℕ) (safe : Safe w) (t a m n at : ℕ) (k : RecordOk s (rec.Session t a m n at)) (idle : (source_of w t).active ≡ false)
+module _ (s w : List ℕ) (safe : Safe w) (t a m n at : ℕ) (k : RecordOk s (a_session t a m n at)) (idle : (source_of w t).active ≡ false)
     (line : above_line a m ≡ false) (declared : (h : ℕ) → h < n → 0 < (link_of w (get_or s (at + h) 0)).capacity)
     (none_left : Every (λ q. q.session ≡ t → ⊥) (packets_of w)) (few : count_of w < 256) where
   known : path_declared_in w s at n ≡ true
@@ -128,7 +128,7 @@ module _ (s w : List ℕ) (safe : Safe w) (t a m n at : ℕ) (k : RecordOk s (re
       let path = path_is s at n k.4 in
       record {
         does = does;
-        safe = taken_safe s w (rec.Session t a m n at) (after_join s w t a m n at) k safe does;
+        safe = taken_safe s w (a_session t a m n at) (after_join s w t a m n at) k safe does;
         joined = joined w safe t k.0 s at n path k.5 declared idle none_left (joiner a m) within active waits (omega arith);
         route = route w safe t k.0 s at n path k.5 declared idle none_left (joiner a m) within active waits (omega arith);
       }

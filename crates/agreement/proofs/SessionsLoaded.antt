@@ -11,7 +11,7 @@ use Rattle.fractions.proofs.Cases.{last}
 use Rattle.fairness.specs.Figure1.{values}
 use Rattle.sessions.specs.Set.{has, has_of}
 use Rattle.sessions.proofs.Members.{in_is, is_in, member_below}
-use Rattle.records.specs.Format.{RecordOk, path_ok}
+use Rattle.records.specs.Format.{a_session, RecordOk, path_ok}
 use Rattle.records.specs.declared.Call.TheVariants as call
 use Rattle.records.specs.declared.Record.TheVariants as rec
 use Rattle.records.proofs.PathBytes.{path_is, path_same}
@@ -88,7 +88,7 @@ sessions_skip d b w q r =
     active t h (inr e) = r.idle t h (omega arith) ∙ sym (ap (λ (v : ℕ). has_of v d.sessions) e ∙ q)
 
 module _ (d : Declared) (ok : Declarable d) (s : List ℕ) (b : ℕ) (w : List ℕ) (r : SessionsIn d b w) (low : b < 32) (m : has b d.sessions ≡ 1)
-    (at : ℕ) (bytes : (h : ℕ) → h < 8 → get_or s (at + h) 0 ≡ byte_at d.path b h) (k : RecordOk s (rec.Session b (get_or d.access b 0) (get_or d.maximum b 0) (path_size d.path b) at)) where
+    (at : ℕ) (bytes : (h : ℕ) → h < 8 → get_or s (at + h) 0 ≡ byte_at d.path b h) (k : RecordOk s (a_session b (get_or d.access b 0) (get_or d.maximum b 0) (path_size d.path b) at)) where
   abbrev a : ℕ
   a = get_or d.access b 0
 
@@ -136,7 +136,7 @@ module _ (d : Declared) (ok : Declarable d) (s : List ℕ) (b : ℕ) (w : List �
   count_next =
       sym (length_packets v) ∙ ap length takes.joined.packets ∙ length-append (packets_of w) _ ∙ ap (λ (y : ℕ). y + 1) (length_packets w)
 
-  sessions_next : SessionsIn d (suc b) (acting s w (rec.Session b a x n at))
+  sessions_next : SessionsIn d (suc b) (acting s w (a_session b a x n at))
   unfolding joining_of
   sessions_next =
       subst (SessionsIn d (suc b)) (sym (ap (λ (y : Step). y.words) takes.does))
@@ -192,10 +192,10 @@ module _ (d : Declared) (ok : Declarable d) (s : List ℕ) where
       let small = (path_is d.path (b * 8) n (ok.path b h m)).most in
       let path : path_ok s (at + 11) n ≡ true = path_same s (at + 11) d.path (b * 8) bytes n small ∙ ok.path b h m in
       let rate = rate_is a (ok.access b h m) in
-      let k : RecordOk s (rec.Session b a x n (at + 11)) =
+      let k : RecordOk s (a_session b a x n (at + 11)) =
       (h, rate.0, rate.1, ok.maximum b h m, path, omega (arith, there.fits)) in
       record {
-        what = rec.Session b a x n (at + 11);
+        what = a_session b a x n (at + 11);
         taken = rw (session_read s at b a x n (byte_at d.path b) there call.Machine h (ok.access b h m) (ok.maximum b h m) path, ap (λ (y : Step). y.verdict) (takes d ok s b w r h m (at + 11) bytes k).does) refl;
         long = session_size s at b a x n (byte_at d.path b) there;
         some = omega arith;

@@ -1,13 +1,13 @@
 -- A table that passes the test of refusal 14 and is settled (01, "Settled"): its links hold the active sessions whose paths they are on and no
 -- others, with the rates of their sources, and those rates were told, fraction for fraction (00, demand 3).
 -- Assumes nothing.
+use Rattle.std.specs.Prelude.{Some}
 use mathlib.Core.Bool.{Bool, false, true}
 use mathlib.Core.List.{List}
 use mathlib.Core.Path.{◌≡◌, ap, refl, subst, ◌∙◌}
 use Prim.Native.Nat.{ℕ, ◌-◌, ◌<◌}
 use native.Mathlib.Omega.{arith}
 use Rattle.conditions.specs.Conditions.{Active, FiveConditions, OnPath}
-use Rattle.ends.specs.declared.Told.TheVariants as told
 use Rattle.fractions.specs.Fraction.{Within, max_rate}
 use Rattle.fractions.proofs.LowestTerms.{lowest_unique}
 use Rattle.handed.specs.Passes.{Passes}
@@ -64,8 +64,8 @@ module _ (w : List ℕ) (o : Passes w) where
         lowest_unique entry.lowest (source_of_active s l a).rate.lowest there.rate
 
     -- which is the rate last told
-    pub settled_told : (s : ℕ) → s < 32 → Active w s → (source_of w s).told ≡ told.Rate (source_of w s).rate
+    pub settled_told : (s : ℕ) → s < 32 → Active w s → (source_of w s).told ≡ Some (source_of w s).rate
     settled_told s l a =
         let t = c.e s (omega arith) a in
         let last : Within max_rate t.last = subst ToldWithin t.told (source_of_active s l a).told in
-        t.told ∙ ap told.Rate (lowest_unique last.lowest (source_of_active s l a).rate.lowest t.same)
+        t.told ∙ ap Some (lowest_unique last.lowest (source_of_active s l a).rate.lowest t.same)

@@ -1,6 +1,7 @@
 -- Condition (c) of one link (01, "Settled"), over rates x s / N of the sessions that it holds: what R's members and F's members have, as whole
 -- numbers. B is (C - sum of F) / |R|, so a rate x s / N is B where x s * |R| and N times the sum of F come to N * C.
 -- Assumes nothing.
+use Rattle.std.specs.Prelude.{Result, Ok, Err}
 use mathlib.Core.Bool.{Bool, true, ◌||◌}
 use mathlib.Core.Path.{◌≡◌, ap, refl, subst, sym, ◌∙◌}
 use Prim.Native.Nat.{ℕ, ◌+◌, ◌-◌, ◌*◌, ◌≤◌, ◌<◌}
@@ -8,9 +9,8 @@ use native.Mathlib.Nat.{eq_of_mul-eq-mul_right, lt_of_mul-lt-mul_right, mul-pos}
 use native.Mathlib.Omega.{arith}
 use borrow.Author.Tests.{eqb-true}
 use Rattle.fractions.specs.declared.Rate.{Rate}
-use Rattle.fractions.specs.declared.Share.{Share}
-use Rattle.fractions.specs.declared.Share.TheVariants as share
-use Rattle.fractions.specs.Fraction.{Lt, Same, Sized, each_of, fine_of, frac, share_of}
+use Rattle.fractions.specs.declared.TooFine.{TooFine}
+use Rattle.fractions.specs.Fraction.{Lt, Same, Sized, each_of, fine_of, frac, share_of, too_fine}
 use Rattle.fractions.proofs.Cases.{cases, eqb-T, or_hit, so_passes}
 use Rattle.fractions.proofs.LowestTerms.{lowest_pos, lowest_same}
 use Rattle.fractions.proofs.Order.{le_lt_trans, le_of_same, lt_le_trans, lt_true, same_sym, same_trans}
@@ -18,7 +18,6 @@ use Rattle.handed.specs.Passes.{SumIsRate}
 use Rattle.links.specs.declared.Bound.{Bound}
 use Rattle.links.specs.declared.Bound.TheVariants as bound
 use Rattle.links.specs.declared.Place.{Place}
-use Rattle.links.specs.declared.Total.TheVariants as total
 use Rattle.links.specs.Links.{B, F, R, TotalSized, Workable, as_bound, below_b, bound_of, equals_b, holds, in_f, in_r, is_fine, rate_at, sum_of}
 use Rattle.links.proofs.Bounds.{bound_some}
 use Rattle.links.proofs.Sizes.{sum_sized}
@@ -45,12 +44,12 @@ module _ (N S X C k yn yd M : ℕ) (pos : 0 < yd) (sum : yn * N ≡ S * yd) (lef
 fine_share : (c : ℕ) (y : Rate) (k : ℕ) → is_fine (as_bound (share_of c y k)) ≡ true → as_bound (share_of c y k) ≡ bound.At (each_of c y k)
 unfolding share_of
 fine_share c y k =
-    cases (λ (z : Share). is_fine (as_bound z) ≡ true → as_bound z ≡ bound.At (each_of c y k)) (fine_of (each_of c y k)) (share.Rate (each_of c y k)) share.TooFine
+    cases (λ (z : Result Rate TooFine). is_fine (as_bound z) ≡ true → as_bound z ≡ bound.At (each_of c y k)) (fine_of (each_of c y k)) (Ok (each_of c y k)) (Err too_fine)
     (λ e f. refl)
     (λ e f. absurd (clash (is_fine bound.TooFine) f refl))
 
 -- B of a link whose R has members
-share_of_b : (p : Place) (y : Rate) → sum_of p ≡ total.Rate y → is_fine (B p) ≡ true → 0 < size_of (R p)
+share_of_b : (p : Place) (y : Rate) → sum_of p ≡ Ok y → is_fine (B p) ≡ true → 0 < size_of (R p)
     → B p ≡ bound.At (each_of p.link.capacity y (size_of (R p)))
 unfolding B
 share_of_b p y e f h =

@@ -1,6 +1,7 @@
 -- A file of kinds 1 and 2 that the machine takes whole, from the empty table on, is accepted by the calculation's reader too: record by record, what is
 -- declared is what the table has.
 -- Assumes nothing.
+use Rattle.std.specs.Prelude.{Result, Ok, ⊤}
 use mathlib.Core.Bool.{◌&&◌, cond, false, true}
 use mathlib.Core.List.{List}
 use mathlib.Core.Logic.{◌⊎◌, inl, inr}
@@ -13,21 +14,18 @@ use lib.ListN.{get_or, length}
 use Rattle.fractions.proofs.Cases.{and_both, cases, chosen, or_either}
 use Rattle.sessions.specs.Set.{has_of}
 use Rattle.sessions.proofs.Members.{has_zero, put_is}
-use Rattle.records.specs.Format.{Bytes, RecordOk, read_at, size_at, takes_of}
+use Rattle.records.specs.Format.{a_session, Bytes, RecordOk, read_at, size_at, takes_of}
 use Rattle.records.specs.Limits.{above_line}
+use Rattle.records.specs.Refusals.{refused_at}
 use Rattle.records.specs.Run.{Ran, judged, run_from, weighed}
 use Rattle.records.specs.declared.Call.TheVariants as call
-use Rattle.records.specs.declared.End.TheVariants as end
-use Rattle.records.specs.declared.Read.{Read}
-use Rattle.records.specs.declared.Read.TheVariants as read
 use Rattle.records.specs.declared.Record.{Record}
 use Rattle.records.specs.declared.Record.TheVariants as rec
 use Rattle.records.specs.declared.Refusal.TheVariants as refusal
-use Rattle.records.specs.declared.Verdict.{Verdict}
-use Rattle.records.specs.declared.Verdict.TheVariants as verdict
+use Rattle.records.specs.declared.Refusal.{Refusal}
 use Rattle.records.proofs.PathBytes.{Path, path_is}
 use Rattle.records.proofs.ReadRecords.{judged_read, judged_record_ok, judged_taken}
-use Rattle.records.proofs.Refused.{not_finished, not_taken}
+use Rattle.records.proofs.Refusing.{not_ok}
 use Rattle.records.proofs.Runs.{TookOne, finished_turn, run_end, run_takes}
 use Rattle.records.proofs.Somes.{clash}
 use Rattle.declarations.specs.Declaring as declaring
@@ -76,12 +74,12 @@ empty_alike =
 module _ (s w : List ℕ) (z : Declared) (r : Alike w z) where
   -- the calculation takes it too, and what is declared then is what the table has
   abbrev Also : Record → Type 0
-  Also x = RecordOk s x → judging s w x ≡ verdict.Taken → (declaring.judging s z x ≡ verdict.Taken) × Alike (acting s w x) (declaring.declare_of s z x)
+  Also x = RecordOk s x → judging s w x ≡ Ok tt → (declaring.judging s z x ≡ Ok tt) × Alike (acting s w x) (declaring.declare_of s z x)
 
-  link_undeclared : (e c : ℕ) → judging s w (rec.Link e c) ≡ verdict.Taken → declared_in w e ≡ false
+  link_undeclared : (e c : ℕ) → judging s w (rec.Link e c) ≡ Ok tt → declared_in w e ≡ false
   unfolding event_of declare_of
   link_undeclared e c =
-      cases (λ (x : Step). x.verdict ≡ verdict.Taken → declared_in w e ≡ false) (declared_in w e) _ _ (λ t q. absurd (not_taken refusal.AlreadyThere q)) (λ t q. t)
+      cases (λ (x : Step). x.verdict ≡ Ok tt → declared_in w e ≡ false) (declared_in w e) _ _ (λ t q. absurd (not_ok refusal.AlreadyThere tt q)) (λ t q. t)
 
   link_also : (e c : ℕ) → Also (rec.Link e c)
   unfolding declaring.judge_of declaring.declare_of
@@ -111,26 +109,26 @@ module _ (s w : List ℕ) (z : Declared) (r : Alike w z) where
     declared : path_declared_in w s at n ≡ true
     few : count_of w < 256
 
-  session_found : (t a m n at : ℕ) → judging s w (rec.Session t a m n at) ≡ verdict.Taken → Found t a m n at
+  session_found : (t a m n at : ℕ) → judging s w (a_session t a m n at) ≡ Ok tt → Found t a m n at
   unfolding event_of join_of source_sends joining_of
   session_found t a m n at =
-      cases Finds (source_of w t).active _ _ (λ i e. absurd (not_taken refusal.AlreadyThere e))
+      cases Finds (source_of w t).active _ _ (λ i e. absurd (not_ok refusal.AlreadyThere tt e))
       (λ i.
-      cases Finds (above_line a m) _ _ (λ l e. absurd (not_taken refusal.AboveLine e))
+      cases Finds (above_line a m) _ _ (λ l e. absurd (not_ok refusal.AboveLine tt e))
       (λ l.
       cases Finds (path_declared_in w s at n) _ _
       (λ p.
       cases Finds (none_of w t (count_of w)) _ _
       (λ q.
-      cases Finds (ltb 256 (count_of w + 1)) _ _ (λ f e. absurd (not_taken refusal.TooManyPackets e))
+      cases Finds (ltb 256 (count_of w + 1)) _ _ (λ f e. absurd (not_ok refusal.TooManyPackets tt e))
       (λ f e. record { idle = i; line = l; declared = p; few = omega (arith, ltb-false 256 (count_of w + 1) f) }))
-      (λ q e. absurd (not_taken refusal.StillLeaving e)))
-      (λ p e. absurd (not_taken refusal.UndeclaredLink e))))
+      (λ q e. absurd (not_ok refusal.StillLeaving tt e)))
+      (λ p e. absurd (not_ok refusal.UndeclaredLink tt e))))
     where
       Finds : Step → Type 0
-      Finds x = x.verdict ≡ verdict.Taken → Found t a m n at
+      Finds x = x.verdict ≡ Ok tt → Found t a m n at
 
-  session_also : (t a m n at : ℕ) → Also (rec.Session t a m n at)
+  session_also : (t a m n at : ℕ) → Also (a_session t a m n at)
   unfolding declaring.judge_of declaring.declare_of
   session_also t a m n at k taken =
       let v = after_join s w t a m n at in
@@ -139,7 +137,7 @@ module _ (s w : List ℕ) (z : Declared) (r : Alike w z) where
       let others : (u : ℕ) → u < 32 → (u ≡ t → ⊥) → (source_of v u).active ≡ (source_of w u).active =
       λ u l d. ap (λ (y : Source). y.active) (takes.joined.sources u l d) in (
         rw (r.sessions t k.0 ∙ found.idle, found.line, known) refl,
-        subst (λ (y : List ℕ). Alike y (declaring.declare_of s z (rec.Session t a m n at))) (sym (ap (λ (y : Step). y.words) takes.does))
+        subst (λ (y : List ℕ). Alike y (declaring.declare_of s z (a_session t a m n at))) (sym (ap (λ (y : Step). y.words) takes.does))
             (record {
               safe = takes.safe;
               links = λ e l. r.links e l ∙ places e l;
@@ -187,13 +185,13 @@ same_read s at t = chosen (takes_of call.Machine (get_or s at 0)) (takes_of call
 
 module _ (s : List ℕ) (bytes : Bytes s) where
   record_also : (w : List ℕ) (z : Declared) (at : ℕ) (x : Record) → Alike w z → declares_at s at ≡ true
-      → judged (read_at call.Machine s at) (judging s w) ≡ read.Record x
-      → (judged (read_at call.Calculation s at) (declaring.judging s z) ≡ read.Record x) × Alike (acting s w x) (declaring.declare_of s z x)
+      → judged (read_at call.Machine s at) (judging s w) ≡ Ok x
+      → (judged (read_at call.Calculation s at) (declaring.judging s z) ≡ Ok x) × Alike (acting s w x) (declaring.declare_of s z x)
   record_also w z at x r kind taken =
       let b = go (read_shape s at x is) (judged_record_ok call.Machine s at (judging s w) x taken bytes) (judged_taken (read_at call.Machine s at) (judging s w) x taken) in
-      (ap (λ (y : Read). judged y (declaring.judging s z)) is ∙ ap (λ (v : Verdict). weighed v x) b.0, b.1)
+      (ap (λ (y : Result Record Refusal). judged y (declaring.judging s z)) is ∙ ap (λ (v : Result ⊤ Refusal). weighed v x) b.0, b.1)
     where
-      is : read_at call.Calculation s at ≡ read.Record x
+      is : read_at call.Calculation s at ≡ Ok x
       is = sym (same_read s at kind) ∙ judged_read (read_at call.Machine s at) (judging s w) x taken
 
       go : IsLink s at x ⊎ IsSession s at x → Also s w z r x
@@ -206,17 +204,17 @@ module _ (s : List ℕ) (bytes : Bytes s) where
   abbrev reader : ℕ → Declared → ℕ → ℕ → Ran Declared
   reader k z n at = run_from call.Calculation (declaring.judging s) (declaring.declare_of s) s k z n at
 
-  also_from : (k : ℕ) (w : List ℕ) (z : Declared) (n at : ℕ) → Alike w z → declares_from k s at ≡ true → (machine k w n at).end ≡ end.Finished
-      → (reader k z n at).end ≡ end.Finished
+  also_from : (k : ℕ) (w : List ℕ) (z : Declared) (n at : ℕ) → Alike w z → declares_from k s at ≡ true → (machine k w n at).end ≡ Ok tt
+      → (reader k z n at).end ≡ Ok tt
   unfolding run_from declares_from
   also_from zero w z n at r d e = refl
   also_from (suc k) w z n at r d e = go (finished_turn call.Machine (judging s) (acting s) s k w n at e) d (λ v y m p. also_from k v y m p)
     where
       go : (length s ≤ at) ⊎ TookOne call.Machine (judging s) (acting s) s k w n at
           → cond (ltb at (length s)) (declares_at s at && declares_from k s (at + size_at s at)) true ≡ true
-          → ((v : List ℕ) (y : Declared) (m p : ℕ) → Alike v y → declares_from k s p ≡ true → (machine k v m p).end ≡ end.Finished
-          → (reader k y m p).end ≡ end.Finished)
-          → (reader (suc k) z n at).end ≡ end.Finished
+          → ((v : List ℕ) (y : Declared) (m p : ℕ) → Alike v y → declares_from k s p ≡ true → (machine k v m p).end ≡ Ok tt
+          → (reader k y m p).end ≡ Ok tt)
+          → (reader (suc k) z n at).end ≡ Ok tt
       go (inl l) g again = ap (λ (x : Ran Declared). x.end) (run_end call.Calculation (declaring.judging s) (declaring.declare_of s) s (suc k) z n at l)
       go (inr t) g again =
           let b = and_both (declares_at s at) _ (rw (lt-ltb at (length s) t.within) at g) in
@@ -225,15 +223,15 @@ module _ (s : List ℕ) (bytes : Bytes s) where
           ∙ again (acting s w t.what) (declaring.declare_of s z t.what) (n + 1) (at + size_at s at) a.1 b.1 t.rest
 
 -- what the machine takes whole, the calculation accepts
-pub taken_accepted : (s : List ℕ) → Bytes s → declares_only s ≡ true → (machine_of empty_words s).end ≡ end.Finished
-    → (declaring.declarations_of s).end ≡ end.Finished
+pub taken_accepted : (s : List ℕ) → Bytes s → declares_only s ≡ true → (machine_of empty_words s).end ≡ Ok tt
+    → (declaring.declarations_of s).end ≡ Ok tt
 unfolding machine_of run_records_of declaring.declarations_of declares_only
 taken_accepted s bytes d =
     cases Accepts (passes14_of empty_words) _ _
     (λ t.
-    cases Accepts (ltb 32768 (length s)) _ _ (λ f e. absurd (not_finished refusal.TooLong 0 e))
+    cases Accepts (ltb 32768 (length s)) _ _ (λ f e. absurd (not_ok (refused_at refusal.TooLong 0) tt e))
     (λ f e. also_from s bytes (length s) empty_words declaring.none_declared 0 0 empty_alike d e))
-    (λ t e. absurd (not_finished refusal.BadTable 0 e))
+    (λ t e. absurd (not_ok (refused_at refusal.BadTable 0) tt e))
   where
     Accepts : Ran (List ℕ) → Type 0
-    Accepts r = r.end ≡ end.Finished → (reader s bytes (length s) declaring.none_declared 0 0).end ≡ end.Finished
+    Accepts r = r.end ≡ Ok tt → (reader s bytes (length s) declaring.none_declared 0 0).end ≡ Ok tt

@@ -1,10 +1,8 @@
 -- 00, demand 3: the rates of a table are the calculation's, fraction for fraction. w are the words of the table.
 -- Assumes nothing: definitions.
-use Rattle.std.specs.Prelude.{true, List, ◌≡◌, ℕ, ◌<◌, get_or}
+use Rattle.std.specs.Prelude.{Ok, true, List, ◌≡◌, ℕ, ◌<◌, get_or, Some}
 use Rattle.calculation.specs.Calculating.{Outcome, calculate_of, results_of}
-use Rattle.calculation.specs.declared.Calculated.TheVariants as calculated
 use Rattle.conditions.specs.Conditions.{Active, OnPath}
-use Rattle.ends.specs.declared.Told.TheVariants as told
 use Rattle.fractions.specs.declared.Rate.{Rate}
 use Rattle.fractions.specs.Fraction.{frac}
 use Rattle.links.specs.Links.{holds, rate_at}
@@ -29,7 +27,7 @@ pub record HasRateAt (w : List ℕ) (e s : ℕ) (x : Rate) : Type 0 where
 pub record HasRate (w : List ℕ) (s : ℕ) (x : Rate) : Type 0 where
   pub source : (source_of w s).rate ≡ x
   pub links : (e : ℕ) → OnPath w s e → HasRateAt w e s x
-  pub told : (source_of w s).told ≡ told.Rate x
+  pub told : (source_of w s).told ≡ Some x
 
 -- every active session has the rate that the calculation gives it for the declarations that the table holds
 pub record Agrees (w : List ℕ) : Type 0 where
@@ -38,5 +36,5 @@ pub record Agrees (w : List ℕ) : Type 0 where
 -- a call of `calculate` on the input s accepts it with the table's links and active sessions, and writes for each of these the rate that it has and was
 -- last told
 pub record GivesRates (w s nums dens places : List ℕ) : Type 0 where
-  pub accepted : (calculate_of s nums dens places).answer ≡ calculated.Done (declarations_in w).links (declarations_in w).sessions
+  pub accepted : (calculate_of s nums dens places).answer ≡ Ok (record { links = (declarations_in w).links; sessions = (declarations_in w).sessions })
   pub rates : (t : ℕ) → t < 32 → Active w t → HasRate w t (written_rate (calculate_of s nums dens places) t)

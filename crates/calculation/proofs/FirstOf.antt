@@ -1,36 +1,38 @@
 -- The first of a list that passes a test: one byte of a path more, that it passes and none before it does, and tests that agree.
 -- Assumes nothing.
-use mathlib.Core.Bool.{Bool, false, true}
-use mathlib.Core.List.{◌∷◌}
+use mathlib.Core.Bool.{Bool, cond, false, true}
+use mathlib.Core.List.{List, [], ◌∷◌}
 use mathlib.Core.Path.{◌≡◌, refl, ap, subst, sym, ◌∙◌}
-use Prim.Native.Nat.{ℕ, zero, suc, ◌+◌, ◌-◌, ◌<◌}
-use native.Mathlib.Numerals.{add-one}
+use Prim.Native.Nat.{ℕ, zero, suc, ◌+◌, ◌*◌, ◌<◌, ◌≤◌}
 use native.Mathlib.Omega.{arith}
+use lib.ListN.{length}
+use Rattle.std.specs.Prelude.{Some}
+use Rattle.std.specs.List.{find, slice_range}
+use Rattle.std.specs.Option.{option_map_or}
+use Rattle.std.proofs.lemmas.Grind.{same_number_lists}
 use Rattle.fairness.specs.Figure1.{values}
-use Rattle.calculation.specs.Binding.{first_of, own}
+use Rattle.fairness.proofs.Running.{values_at}
+use Rattle.search.specs.Crossing.{byte_at}
+use Rattle.search.proofs.Paths.{path_byte, path_length}
+use Rattle.calculation.specs.Binding.{first_of, own, path_bytes}
 
--- the values that are left after h of eight, taken apart
-values_left : (f : ℕ → ℕ) (h : ℕ) → h < 8 → values h (8 - h) f ≡ f h ∷ values (h + 1) (8 - (h + 1)) f
+-- what `find` finds is the first
+pub find_first : (test : ℕ → Bool) (l : List ℕ) → option_map_or (λ e. e) (find test l) own ≡ first_of test l
+unfolding first_of
+find_first test [] = refl
+find_first test (e ∷ l) = go (test e) (find_first test l)
+  where
+    go : (b : Bool) → option_map_or (λ e. e) (find test l) own ≡ first_of test l → option_map_or (λ e. e) (cond b (Some e) (find test l)) own ≡ cond b e (first_of test l)
+    go true q = refl
+    go false q = q
+
+-- the eight bytes of a path, as a part of all path bytes
+pub path_part : (path : List ℕ) (t : ℕ) → t * 8 + 8 ≤ length path → slice_range path (t * 8) (t * 8 + 8) ≡ path_bytes path t
 unfolding values
-values_left f h k =
-    let e : 8 - h ≡ suc (8 - (h + 1)) = omega arith in
-    rw (e, add-one)
-
-module _ (test : ℕ → Bool) (f : ℕ → ℕ) where
-  -- one that fails is passed over
-  pub first_next : (h : ℕ) → h < 8 → test (f h) ≡ false → first_of test (values h (8 - h) f) ≡ first_of test (values (h + 1) (8 - (h + 1)) f)
-  unfolding first_of
-  first_next h k e = rw (values_left f h k, e)
-
-  -- one that passes is the first
-  pub first_hit : (h : ℕ) → h < 8 → test (f h) ≡ true → first_of test (values h (8 - h) f) ≡ f h
-  unfolding first_of
-  first_hit h k e = rw (values_left f h k, e)
-
-  -- after eight there is none
-  pub first_none : (h : ℕ) → h ≡ 8 → first_of test (values h (8 - h) f) ≡ own
-  unfolding first_of values
-  first_none h e = let z : 8 - h ≡ 0 = omega arith in rw z
+path_part path t fits =
+    let long = path_length path t fits in
+    same_number_lists (slice_range path (t * 8) (t * 8 + 8)) (values 0 8 (byte_at path t)) long
+    (λ h l. let k : h < 8 = omega (arith, l, long) in path_byte path t h k ∙ sym (values_at 8 h (byte_at path t) 0 k))
 
 -- of the n values from i on, one that passes, before which none does, is the first
 pub record First (test : ℕ → Bool) (f : ℕ → ℕ) (i n : ℕ) : Type 0 where

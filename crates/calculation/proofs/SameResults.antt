@@ -95,7 +95,7 @@ filled_answer d z f =
       lowest = λ t h. lowest_lowest (get_or z.rate t 0) z.den f.fair.feasible.pos;
     }
 
-module _ (d : Declared) (z : Fixed) (v : Results) (f : Filled d z) (found : Found d.access d.maximum d.path z.rate z.room z.last z.den d.sessions v) where
+module _ (d : Declared) (z : Fixed) (v : Results) (f : Filled d z) (found : Found d z v) where
   same_rate : (t : ℕ) → Active (problem_of d) t → lowest_of (get_or z.rate t 0) z.den ≡ figure1_rate (problem_of d) t
   same_rate = answer_unique (problem_of d) _ _ (filled_answer d z f) (figure1_answer (problem_of d))
 

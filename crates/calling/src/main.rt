@@ -11,16 +11,12 @@ use std::io;
 use tasks::{Eta, Kind};
 
 // P2: link 0 of 10, and session 0 over it with an access line of 100.
-fn declared() -> [u8; 25] {
-    [
-        1, 0, 0, 0, 0, 10, 2, 0, 0, 0, 0, 100, 0, 0, 0, 0, 1, 0, 255, 255, 255, 255, 255, 255, 255,
-    ]
-}
+const P2: [u8; 25] = [
+    1, 0, 0, 0, 0, 10, 2, 0, 0, 0, 0, 100, 0, 0, 0, 0, 1, 0, 255, 255, 255, 255, 255, 255, 255,
+];
 
 // Position 0 is delivered six times.
-fn delivered() -> [u8; 18] {
-    [5, 0, 0, 5, 0, 0, 5, 0, 0, 5, 0, 0, 5, 0, 0, 5, 0, 0]
-}
+const SIX_DELIVERIES: [u8; 18] = [5, 0, 0, 5, 0, 0, 5, 0, 0, 5, 0, 0, 5, 0, 0, 5, 0, 0];
 
 fn say(rt: &impl Print, text: &str, is_so: bool) -> io::Result<()> {
     let answer = if is_so { "yes" } else { "no" };
@@ -31,46 +27,41 @@ fn accept(rt: &impl Print) -> io::Result<()> {
     let mut nums = [0u64; 32];
     let mut dens = [0u64; 32];
     let mut places = [0u64; 32];
-    let p2 = declared();
     say(
         rt,
         "accepted",
-        accepting::is_accepted(&p2, &mut nums, &mut dens, &mut places),
+        accepting::is_accepted(&P2, &mut nums, &mut dens, &mut places),
     )?;
     say(
         rt,
         "accepted where a slice has no place",
-        accepting::is_accepted(&p2, &mut nums, &mut dens, &mut []),
+        accepting::is_accepted(&P2, &mut nums, &mut dens, &mut []),
     )
 }
 
 fn settle(rt: &impl Print) -> io::Result<()> {
     let mut t = [0u64; 9153];
-    let p2 = declared();
     say(
         rt,
         "settled after the join",
-        settling::is_settled_after(&mut t, &p2),
+        settling::is_settled_after(&mut t, &P2),
     )?;
-    let six = delivered();
     say(
         rt,
         "settled after six deliveries",
-        settling::is_settled_after(&mut t, &six),
+        settling::is_settled_after(&mut t, &SIX_DELIVERIES),
     )
 }
 
 fn carry(rt: &impl Print) -> io::Result<()> {
-    let none = lent::no_entries();
-    let card = Place {
-        link: Link {
-            capacity: 10,
-            r: 0,
-            f: 0,
-        },
-        entries: none,
+    let entries = lent::no_entries();
+    let link = Link {
+        capacity: 10,
+        r: 0,
+        f: 0,
     };
-    let after = carrying::after_packet(card, 0, Kind::Join(Rate { num: 100, den: 1 }, Eta::Own));
+    let card = Place { link, entries };
+    let after = carrying::after_packet(card, 0, Kind::Join(Rate::whole(100), Eta::Own));
     say(rt, "session 0 in R after its Join", after.link.r == 1)
 }
 

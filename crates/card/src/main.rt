@@ -5,65 +5,51 @@
 mod says;
 
 use fractions::Rate;
+use lent::After;
 use links::{Entry, Link, Mu, Place};
+use says::Said;
 use std::io;
 use tasks::{Eta, Kind, Tau};
 
 fn idle(num: u64, den: u64) -> Entry {
     Entry {
         mu: Mu::Idle,
-        rate: Rate { num: num, den: den },
+        rate: Rate { num, den },
+    }
+}
+
+// A card with these words of R and F, and these entries.
+fn card_of(capacity: u64, r: u32, f: u32, entries: [Entry; 32]) -> Place {
+    Place {
+        link: Link { capacity, r, f },
+        entries,
     }
 }
 
 // The link's task on a packet of session s, under a title: the card is link 0.
 fn packet(rt: &impl Print, title: &str, card: Place, s: u32, kind: Kind) -> io::Result<Place> {
-    says::text(rt, title)?;
-    let link = card.link;
-    let entries = card.entries;
-    let x = lent::step_link_plain(0, s, kind, link, entries);
-    let answer = x.answer;
-    says::stepped(rt, answer)?;
-    let l = x.link;
-    let a = x.entries;
-    let next = Place {
-        link: l,
-        entries: a,
-    };
+    let After {
+        link,
+        entries,
+        answer,
+    } = lent::step_link_plain(0, s, kind, card.link, card.entries);
+    rt.print(title)?;
+    print!(rt; " {}", Said(answer))?;
+    let next = Place { link, entries };
     says::place(rt, next)?;
     Ok(next)
 }
 
 // The F check alone.
 fn check(rt: &impl Print, title: &str, card: Place) -> io::Result<()> {
-    says::text(rt, title)?;
-    let link = card.link;
-    let entries = card.entries;
-    let x = lent::f_check_plain(link, entries);
-    let answer = x.answer;
-    says::checked(rt, answer)?;
-    let l = x.link;
-    let a = x.entries;
-    says::place(
-        rt,
-        Place {
-            link: l,
-            entries: a,
-        },
-    )
-}
-
-// A link with no session.
-fn empty(capacity: u64) -> Place {
-    let entries = lent::no_entries();
-    Place {
-        link: Link {
-            capacity: capacity,
-            r: 0,
-            f: 0,
-        },
-        entries: entries,
-    }
+    let After {
+        link,
+        entries,
+        answer,
+    } = lent::f_check_plain(card.link, card.entries);
+    rt.print(title)?;
+    print!(rt; " {}", Said(answer))?;
+    says::place(rt, Place { link, entries })
 }
 
 // Session 0 joins, and has the whole link.
@@ -131,14 +117,6 @@ fn last_packets(rt: &impl Print, card: Place) -> io::Result<Place> {
         Kind::Update,
     )?;
     packet(rt, "leave of 0:", a, 0, Kind::Leave)
-}
-
-// A card with these words of R and F, and these entries.
-fn card_of(capacity: u64, r: u32, f: u32, entries: [Entry; 32]) -> Place {
-    Place {
-        link: Link { capacity, r, f },
-        entries: entries,
-    }
 }
 
 // Of F with 5 and 3 the 5 returns first, and then B is above 3. A member of F with exactly B returns.
@@ -308,7 +286,7 @@ fn sum_before(rt: &impl Print) -> io::Result<()> {
 }
 
 fn main(rt: HostRuntime) -> io::Result<()> {
-    let a = empty(10);
+    let a = card_of(10, 0, 0, lent::no_entries());
     let b = first_session(&rt, a)?;
     let c = second_session(&rt, b)?;
     let d = first_again(&rt, c)?;

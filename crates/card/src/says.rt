@@ -1,169 +1,118 @@
 // What a card prints: the answer, the words of R and F, and the entries that the link holds.
-use fractions::Rate;
-use lent::{FChecked, Stepped};
-use links::{Bound, Entry, Mu, Place};
+use lent::{Checked, Sent};
+use links::{Bound, Entry, Link, Mu, Place};
 use records::Refusal;
-use std::io;
-use tasks::{Burst, Eta, Kind, Onward, Tau};
+use std::{fmt, io};
+use tasks::{Burst, Eta, Kind, Tau};
 
-pub fn text(rt: &impl Print, s: &str) -> io::Result<()> {
-    rt.print(s)
-}
+// A value as a card prints it.
+#[derive(Clone, Copy)]
+pub struct Said<T>(pub T);
 
-fn decimal(rt: &impl Print, n: u64) -> io::Result<()> {
-    rt.print(n)
-}
-
-fn rate(rt: &impl Print, x: Rate) -> io::Result<()> {
-    text(rt, " ")?;
-    decimal(rt, x.num)?;
-    text(rt, "/")?;
-    decimal(rt, x.den)
-}
-
-fn eta(rt: &impl Print, x: Eta) -> io::Result<()> {
-    match x {
-        Eta::Own => text(rt, " own"),
-        Eta::Link(e) => {
-            text(rt, " link ")?;
-            decimal(rt, e as u64)
+impl fmt::Display for Said<Eta> {
+    fn fmt<W: fmt::Write>(&self, f: &mut fmt::Formatter<W>) -> fmt::Result {
+        match self.0 {
+            Eta::Own => write!(f, "own"),
+            Eta::Link(e) => write!(f, "link {e}"),
         }
     }
 }
 
-fn tau(rt: &impl Print, x: Tau) -> io::Result<()> {
-    match x {
-        Tau::Response => text(rt, " response"),
-        Tau::Update => text(rt, " update"),
-        Tau::Bottleneck => text(rt, " bottleneck"),
+impl fmt::Display for Said<Tau> {
+    fn fmt<W: fmt::Write>(&self, f: &mut fmt::Formatter<W>) -> fmt::Result {
+        match self.0 {
+            Tau::Response => write!(f, "response"),
+            Tau::Update => write!(f, "update"),
+            Tau::Bottleneck => write!(f, "bottleneck"),
+        }
     }
 }
 
-fn flag(rt: &impl Print, x: bool) -> io::Result<()> {
-    if x {
-        text(rt, " true")
-    } else {
-        text(rt, " false")
+impl fmt::Display for Said<Kind> {
+    fn fmt<W: fmt::Write>(&self, f: &mut fmt::Formatter<W>) -> fmt::Result {
+        match self.0 {
+            Kind::Join(x, eta) => write!(f, "Join {x} {}", Said(eta)),
+            Kind::Probe(x, eta) => write!(f, "Probe {x} {}", Said(eta)),
+            Kind::Response(tau, x, eta) => write!(f, "Response {} {x} {}", Said(tau), Said(eta)),
+            Kind::Update => write!(f, "Update"),
+            Kind::Bottleneck => write!(f, "Bottleneck"),
+            Kind::SetBottleneck(beta) => write!(f, "SetBottleneck {beta}"),
+            Kind::Leave => write!(f, "Leave"),
+        }
     }
 }
 
-fn kind(rt: &impl Print, x: Kind) -> io::Result<()> {
-    match x {
-        Kind::Join(r, n) => {
-            text(rt, " Join")?;
-            rate(rt, r)?;
-            eta(rt, n)
+impl fmt::Display for Said<Burst> {
+    fn fmt<W: fmt::Write>(&self, f: &mut fmt::Formatter<W>) -> fmt::Result {
+        match self.0 {
+            Burst::Update => write!(f, "Update"),
+            Burst::Bottleneck => write!(f, "Bottleneck"),
         }
-        Kind::Probe(r, n) => {
-            text(rt, " Probe")?;
-            rate(rt, r)?;
-            eta(rt, n)
-        }
-        Kind::Response(t, r, n) => {
-            text(rt, " Response")?;
-            tau(rt, t)?;
-            rate(rt, r)?;
-            eta(rt, n)
-        }
-        Kind::Update => text(rt, " Update"),
-        Kind::Bottleneck => text(rt, " Bottleneck"),
-        Kind::SetBottleneck(beta) => {
-            text(rt, " SetBottleneck")?;
-            flag(rt, beta)
-        }
-        Kind::Leave => text(rt, " Leave"),
     }
 }
 
-fn refused(rt: &impl Print, r: Refusal) -> io::Result<()> {
-    text(rt, " refused ")?;
-    decimal(rt, records::number(r))
-}
-
-fn burst(rt: &impl Print, x: Burst, to: u32) -> io::Result<()> {
-    match x {
-        Burst::Update => text(rt, " Update to word ")?,
-        Burst::Bottleneck => text(rt, " Bottleneck to word ")?,
-    }
-    decimal(rt, to as u64)
-}
-
-fn onward(rt: &impl Print, x: Onward) -> io::Result<()> {
-    match x {
-        Onward::Nothing => text(rt, ", nothing"),
-        Onward::Send(k) => {
-            text(rt, ",")?;
-            kind(rt, k)
+impl fmt::Display for Said<Option<Kind>> {
+    fn fmt<W: fmt::Write>(&self, f: &mut fmt::Formatter<W>) -> fmt::Result {
+        match self.0 {
+            None => write!(f, "nothing"),
+            Some(kind) => write!(f, "{}", Said(kind)),
         }
+    }
+}
+
+impl fmt::Display for Said<Refusal> {
+    fn fmt<W: fmt::Write>(&self, f: &mut fmt::Formatter<W>) -> fmt::Result {
+        write!(f, "refused {}", u64::from(self.0))
     }
 }
 
 // What the step sends to a set of sessions, and of the packet's own; or the refusal.
-pub fn stepped(rt: &impl Print, x: Stepped) -> io::Result<()> {
-    match x {
-        Stepped::Done { burst: k, to, on } => {
-            burst(rt, k, to)?;
-            onward(rt, on)
+impl fmt::Display for Said<Result<Sent, Refusal>> {
+    fn fmt<W: fmt::Write>(&self, f: &mut fmt::Formatter<W>) -> fmt::Result {
+        match self.0 {
+            Ok(Sent { burst, to, on }) => write!(f, "{} to word {to}, {}", Said(burst), Said(on)),
+            Err(refusal) => write!(f, "{}", Said(refusal)),
         }
-        Stepped::Refused { refusal } => refused(rt, refusal),
     }
 }
 
-fn bound(rt: &impl Print, x: Bound) -> io::Result<()> {
-    match x {
-        Bound::At(b) => rate(rt, b),
-        Bound::Above => text(rt, " above"),
-        Bound::TooFine => text(rt, " too fine"),
+impl fmt::Display for Said<Bound> {
+    fn fmt<W: fmt::Write>(&self, f: &mut fmt::Formatter<W>) -> fmt::Result {
+        match self.0 {
+            Bound::At(b) => write!(f, "{b}"),
+            Bound::Above => write!(f, "above"),
+            Bound::TooFine => write!(f, "too fine"),
+        }
     }
 }
 
 // The sessions that are sent an Update, and B; or the refusal.
-pub fn checked(rt: &impl Print, x: FChecked) -> io::Result<()> {
-    match x {
-        FChecked::Done { to, bound: b } => {
-            text(rt, " Update to word ")?;
-            decimal(rt, to as u64)?;
-            text(rt, ", B")?;
-            bound(rt, b)
-        }
-        FChecked::Refused { refusal } => refused(rt, refusal),
-    }
-}
-
-fn mu(rt: &impl Print, x: Mu) -> io::Result<()> {
-    match x {
-        Mu::Idle => text(rt, " idle"),
-        Mu::WaitingProbe => text(rt, " waiting for a probe"),
-        Mu::WaitingResponse => text(rt, " waiting for a response"),
-    }
-}
-
-// A session that the link holds, with its rate and its state.
-fn session(rt: &impl Print, s: u32, x: Entry) -> io::Result<()> {
-    text(rt, "; ")?;
-    decimal(rt, s as u64)?;
-    rate(rt, x.rate)?;
-    let m = x.mu;
-    mu(rt, m)
-}
-
-// Each session that the link holds.
-fn sessions(rt: &impl Print, p: Place) -> io::Result<()> {
-    for s in 0..32u32 {
-        if links::holds(p, s) {
-            let x = p.entries[s as usize];
-            session(rt, s, x)?;
+impl fmt::Display for Said<Result<Checked, Refusal>> {
+    fn fmt<W: fmt::Write>(&self, f: &mut fmt::Formatter<W>) -> fmt::Result {
+        match self.0 {
+            Ok(Checked { to, bound }) => write!(f, "Update to word {to}, B {}", Said(bound)),
+            Err(refusal) => write!(f, "{}", Said(refusal)),
         }
     }
-    Ok(())
 }
 
-// R and F, and the sessions.
+impl fmt::Display for Said<Mu> {
+    fn fmt<W: fmt::Write>(&self, f: &mut fmt::Formatter<W>) -> fmt::Result {
+        match self.0 {
+            Mu::Idle => write!(f, "idle"),
+            Mu::WaitingProbe => write!(f, "waiting for a probe"),
+            Mu::WaitingResponse => write!(f, "waiting for a response"),
+        }
+    }
+}
+
+// R and F, and each session that the link holds, with its rate and its state.
 pub fn place(rt: &impl Print, p: Place) -> io::Result<()> {
-    text(rt, "; R ")?;
-    decimal(rt, p.link.r as u64)?;
-    text(rt, " F ")?;
-    decimal(rt, p.link.f as u64)?;
-    sessions(rt, p)?;
-    text(rt, "\n")
+    let Link { r, f, .. } = p.link;
+    print!(rt; "; R {r} F {f}")?;
+    for s in sessions::each(r | f) {
+        let Entry { mu, rate } = p.entries[s as usize];
+        print!(rt; "; {s} {rate} {}", Said(mu))?;
+    }
+    rt.println("")
 }

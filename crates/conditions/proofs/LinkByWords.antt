@@ -3,15 +3,15 @@
 use mathlib.Core.Bool.{Bool, false, not, true, ◌&&◌, ◌||◌}
 use mathlib.Core.List.{List}
 use mathlib.Core.Logic.{◌⊎◌, inl, inr}
-use mathlib.Core.Path.{ap, ap₂, refl, ◌≡◌}
+use mathlib.Core.Path.{ap, ap₂, refl, sym, ◌≡◌}
 use Prim.Native.Nat.{ℕ, ◌<◌}
 use native.Mathlib.Omega.{arith}
 use lib.Dec.{eqb}
 use Rattle.links.specs.declared.Bound.{Bound}
 use Rattle.links.specs.Links.{B, R, below_b, equals_b, rate_at, sum_of}
-use Rattle.records.proofs.Alls.{all_below}
+use Rattle.records.proofs.Alls.{all_below, all_fails}
 use Rattle.sessions.specs.Set.{has}
-use Rattle.sessions.proofs.EachMember.{Shown, shown_all}
+use Rattle.sessions.proofs.Chains.{AllPass}
 use Rattle.sessions.proofs.Members.{has_or_not, has_zero}
 use Rattle.table.specs.Words.{place_of}
 use Rattle.totals.proofs.Held.{held_word, none_summed, out_of_both}
@@ -27,19 +27,25 @@ module _ (w : List ℕ) (e : ℕ) where
         let q = out_of_both w e s o in
         ap₂ ◌&&◌ (ap (λ (a : Bool). not a || equals_b b (rate_at p s)) q.0) (ap (λ (a : Bool). not a || below_b b (rate_at p s)) q.1)
 
-    pub members_all : (left : ℕ) → left ≡ 0 → Shown (λ s. member_rated b (place_of w e) s ≡ true) 32 (held_word w e) left → members_rated b (place_of w e) ≡ true
+    members_all : ((s : ℕ) → s < 32 → has s (held_word w e) ≡ 1 → member_rated b (place_of w e) s ≡ true) → members_rated b (place_of w e) ≡ true
     unfolding members_rated
-    members_all left z h = all_below 32 (member_rated b (place_of w e)) (λ s l. go s l (has_or_not s (held_word w e)))
+    members_all h = all_below 32 (member_rated b (place_of w e)) (λ s l. go s l (has_or_not s (held_word w e)))
       where
         go : (s : ℕ) → s < 32 → (has s (held_word w e) ≡ 0) ⊎ (has s (held_word w e) ≡ 1) → member_rated b (place_of w e) s ≡ true
         go s l (inl o) = member_out s o
-        go s l (inr i) = shown_all (λ s. member_rated b (place_of w e) s ≡ true) 32 (held_word w e) left z h s l i
+        go s l (inr i) = h s l i
+
+    -- what all of the members answer
+    pub rated_is : (r : Bool) → AllPass 32 (held_word w e) (member_rated b (place_of w e)) r → r ≡ members_rated b (place_of w e)
+    unfolding members_rated
+    rated_is true h = sym (members_all h)
+    rated_is false (s, l, i, m) = sym (all_fails 32 (member_rated b (place_of w e)) s l m)
 
   pub empty_rated : held_word w e ≡ 0 → link_rated w e ≡ true
   unfolding link_rated sum_rated
   empty_rated z =
       let p = place_of w e in
-      ap₂ ◌&&◌ (members_all (B p) 0 refl (λ s l i o. absurd (omega (arith, i, ap (has s) z, has_zero s))))
+      ap₂ ◌&&◌ (members_all (B p) (λ s l i. absurd (omega (arith, i, ap (has s) z, has_zero s))))
       (second (not (eqb (R p) 0)) (is_at_most_c (sum_of p)) (ap is_at_most_c (none_summed w e z)))
     where
       second : (a c : Bool) → c ≡ true → (a || c) ≡ true

@@ -1,5 +1,6 @@
 -- The tests of one session and of one link, as statements: from the test, and back to it.
 -- Assumes nothing.
+use Rattle.std.specs.Prelude.{Result, Ok, Err, None, Option, Some}
 use mathlib.Core.Bool.{Bool, false, not, true, ◌&&◌, ◌||◌}
 use mathlib.Core.List.{List}
 use mathlib.Core.Logic.{inl, inr, ◌⊎◌}
@@ -8,15 +9,12 @@ use Prim.Native.Nat.{ℕ, ◌*◌, ◌<◌, ◌^◌}
 use native.Mathlib.Omega.{arith}
 use borrow.Author.Tests.{eq-eqb, eqb-true}
 use lib.Dec.{eqb}
-use Rattle.ends.specs.declared.Told.{Told}
-use Rattle.ends.specs.declared.Told.TheVariants as told
 use Rattle.fractions.specs.declared.Rate.{Rate}
-use Rattle.fractions.specs.Fraction.{Same, le_of, same_of}
+use Rattle.fractions.specs.Fraction.{Same, le_of, same_of, Sized}
 use Rattle.fractions.proofs.Cases.{and_both, not-false, not_true, or_either}
 use Rattle.fractions.proofs.Order.{le_true, true_le}
 use Rattle.links.specs.declared.Place.{Place}
-use Rattle.links.specs.declared.Total.{Total}
-use Rattle.links.specs.declared.Total.TheVariants as total
+use Rattle.links.specs.declared.NoTotal.{NoTotal}
 use Rattle.links.specs.Links.{B, R, TotalSized, Workable, below_b, equals_b, holds, in_f, in_r, is_idle, mu_at, rate_at, sum_of}
 use Rattle.links.proofs.Sizes.{sum_sized}
 use Rattle.records.specs.Format.{all}
@@ -82,12 +80,11 @@ zero_none w s e = rw (e, has_zero s)
 at_most_means : (p : Place) → Workable p → is_at_most_c (sum_of p) ≡ true → SumAtMostC p
 at_most_means p o h = go (sum_of p) refl
   where
-    go : (y : Total) → sum_of p ≡ y → SumAtMostC p
-    go (total.Rate y) e =
-        let q : TotalSized p.link.capacity (total.Rate y) = subst (TotalSized p.link.capacity) e (sum_sized p o) in
+    go : (y : Result Rate NoTotal) → sum_of p ≡ y → SumAtMostC p
+    go (Ok y) e =
+        let q : Sized p.link.capacity y = subst (TotalSized p.link.capacity) e (sum_sized p o) in
         record { sum = y; sums = e; most = record { cross = omega (arith, q.num) } }
-    go total.TooFine e = absurd (clash (is_at_most_c (sum_of p)) h (ap is_at_most_c e))
-    go total.PastC e = absurd (clash (is_at_most_c (sum_of p)) h (ap is_at_most_c e))
+    go (Err _) e = absurd (clash (is_at_most_c (sum_of p)) h (ap is_at_most_c e))
 
 pub rated_means : (w : List ℕ) (e : ℕ) → Workable (place_of w e) → R (place_of w e) < 2 ^ 32 → link_rated w e ≡ true → Rated (place_of w e)
 unfolding link_rated members_rated member_rated rated_in_r rated_in_f sum_rated
@@ -164,17 +161,17 @@ told_means w s h t = go (source_of w s).told refl
     passes : is_told (source_of w s).told (source_of w s).rate ≡ true
     passes = implied (source_of w s).active (is_told (source_of w s).told (source_of w s).rate) h t
 
-    go : (y : Told) → (source_of w s).told ≡ y → ToldItsRate w s
-    go told.Never e = absurd (clash (is_told (source_of w s).told (source_of w s).rate) passes (ap (λ (y : Told). is_told y (source_of w s).rate) e))
-    go (told.Rate y) e =
+    go : (y : Option Rate) → (source_of w s).told ≡ y → ToldItsRate w s
+    go None e = absurd (clash (is_told (source_of w s).told (source_of w s).rate) passes (ap (λ (y : Option Rate). is_told y (source_of w s).rate) e))
+    go (Some y) e =
         record {
           last = y;
           told = e;
-          same = same_means y (source_of w s).rate (sym (ap (λ (x : Told). is_told x (source_of w s).rate) e) ∙ passes);
+          same = same_means y (source_of w s).rate (sym (ap (λ (x : Option Rate). is_told x (source_of w s).rate) e) ∙ passes);
         }
 
 pub told_test : (w : List ℕ) (s : ℕ) → ((source_of w s).active ≡ true → ToldItsRate w s) → session_told w s ≡ true
 unfolding session_told
 told_test w s f =
     implies (source_of w s).active (is_told (source_of w s).told (source_of w s).rate)
-    (λ t. ap (λ (x : Told). is_told x (source_of w s).rate) (f t).told ∙ same_test (f t).last (source_of w s).rate (f t).same)
+    (λ t. ap (λ (x : Option Rate). is_told x (source_of w s).rate) (f t).told ∙ same_test (f t).last (source_of w s).rate (f t).same)

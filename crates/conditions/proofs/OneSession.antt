@@ -1,12 +1,14 @@
 -- The test with (b), (d) and (e) asked session by session is the test condition by condition; and who is in R at some link, as a word.
 -- Assumes nothing.
 use mathlib.Core.Bool.{Bool, false, not, true, ◌&&◌, ◌||◌}
-use mathlib.Core.List.{List}
-use mathlib.Core.Path.{ap, ap₂, refl, ◌∙◌, ◌≡◌}
-use Prim.Native.Nat.{ℕ, ◌+◌, ◌<◌}
-use native.Mathlib.Numerals.{add-one}
+use mathlib.Core.List.{List, [], ◌∷◌, ◌++◌}
+use mathlib.Core.Path.{ap, ap₂, sym, ◌∙◌, ◌≡◌}
+use Prim.Native.Nat.{ℕ, ◌<◌}
 use lib.Bits.{bit_or}
 use lib.Dec.{eqb}
+use Rattle.std.proofs.Math.Bool.{or-false}
+use Rattle.std.specs.List.{list_any, range_with_len}
+use Rattle.std.proofs.lemmas.List.Folds.{list_any-append}
 use Rattle.declarations.specs.Declaring.{own_limit_of}
 use Rattle.ends.specs.declared.Source.{Source}
 use Rattle.fractions.specs.Fraction.{le_of, same_of, whole_of}
@@ -14,35 +16,34 @@ use Rattle.fractions.proofs.Cases.{and_both, same_test}
 use Rattle.links.specs.Links.{is_idle}
 use Rattle.records.specs.Format.{all}
 use Rattle.records.proofs.Alls.{all_at, all_below}
+use Rattle.records.proofs.Chains.{list_any_below}
 use Rattle.sessions.specs.Set.{has_of}
 use Rattle.sessions.proofs.Members.{has_zero}
 use Rattle.sessions.proofs.Operations.{in_either}
 use Rattle.table.specs.Words.{link_of, source_of}
-use Rattle.conditions.specs.OneSession.{session_settles}
+use Rattle.conditions.specs.OneSession.{RestrictedIn, session_settles}
 use Rattle.conditions.specs.Settled.{condition_a, condition_b, condition_c, condition_d, condition_e, is_limited, is_told, limit_of, path_agrees, restricted_at, restricted_somewhere, session_limited, session_rests, session_told, settled_of}
 
 -- IN R AT SOME LINK ---------------------------------------------------------------------------------------------------
 
--- the members are the sessions that are in R at one of the first n links
-abbrev pub RestrictedBelow : List ℕ → ℕ → ℕ → Type 0
-RestrictedBelow w n v = (s : ℕ) → has_of s v ≡ not (all n (λ e. not (restricted_at w s e)))
+-- the members are the sessions that are in R at one of these links
+abbrev pub InAny : List ℕ → List ℕ → ℕ → Type 0
+InAny w es v = (s : ℕ) → has_of s v ≡ list_any (restricted_at w s) es
 
-pub restricted_none : (w : List ℕ) → RestrictedBelow w 0 0
-unfolding all
+pub restricted_none : (w : List ℕ) → InAny w [] 0
 restricted_none w s = ap (λ (d : ℕ). eqb d 1) (has_zero s)
 
-either_not : (a b : Bool) → (not a || b) ≡ not (a && not b)
-either_not true true = refl
-either_not true false = refl
-either_not false true = refl
-either_not false false = refl
+pub restricted_next : (w es : List ℕ) (e v : ℕ) → InAny w es v → InAny w (es ++ (e ∷ [])) (bit_or v (link_of w e).r)
+unfolding restricted_at
+restricted_next w es e v h s =
+    in_either s v (link_of w e).r
+    ∙ ap (λ (a : Bool). a || has_of s (link_of w e).r) (h s)
+    ∙ ap (λ (a : Bool). list_any (restricted_at w s) es || a) (sym (or-false (has_of s (link_of w e).r)))
+    ∙ sym (list_any-append (restricted_at w s) es (e ∷ []))
 
-pub restricted_next : (w : List ℕ) (n v : ℕ) → RestrictedBelow w n v → RestrictedBelow w (n + 1) (bit_or v (link_of w n).r)
-unfolding all restricted_at
-restricted_next w n v h s =
-    in_either s v (link_of w n).r
-    ∙ (ap (λ (a : Bool). a || has_of s (link_of w n).r) (h s)
-    ∙ rw add-one (either_not (all n (λ e. not (restricted_at w s e))) (has_of s (link_of w n).r)))
+pub restricted_all : (w : List ℕ) (v : ℕ) → InAny w (range_with_len 0 64) v → RestrictedIn w v
+unfolding restricted_somewhere
+restricted_all w v h s = h s ∙ list_any_below 64 (restricted_at w s)
 
 -- ONE SESSION ---------------------------------------------------------------------------------------------------------
 

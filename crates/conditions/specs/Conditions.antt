@@ -1,12 +1,10 @@
 -- 01, "Settled: five conditions", as statements about links, sessions and rates: what the test of Settled.antt comes to.
 -- Assumes nothing: definitions.
-use Rattle.std.specs.Prelude.{false, true, List, ◌⊎◌, ◌≡◌, ℕ, ◌<◌}
-use Rattle.ends.specs.declared.Told.TheVariants as told
+use Rattle.std.specs.Prelude.{false, true, List, ◌⊎◌, ◌≡◌, ℕ, ◌<◌, Ok, Some}
 use Rattle.ends.specs.Figure3.{D}
 use Rattle.fractions.specs.declared.Rate.{Rate}
 use Rattle.fractions.specs.Fraction.{Le, Same, whole_of}
 use Rattle.links.specs.declared.Place.{Place}
-use Rattle.links.specs.declared.Total.TheVariants as total
 use Rattle.links.specs.Links.{B, below_b, equals_b, holds, in_f, in_r, is_idle, mu_at, rate_at, sum_of}
 use Rattle.table.specs.Words.{count_of, hops_of, place_of, source_of, stop_of}
 
@@ -35,7 +33,7 @@ pub record Rests (w : List ℕ) (s : ℕ) : Type 0 where
 -- "the sum of F is at most C"
 pub record SumAtMostC (p : Place) : Type 0 where
   pub sum : Rate
-  pub sums : sum_of p ≡ total.Rate sum
+  pub sums : sum_of p ≡ Ok sum
   pub most : Le sum (whole_of p.link.capacity)
 
 -- (c) of a link: "every member of R has rate B, every member of F has less than B, and if R is empty the sum of F is at most C"
@@ -58,7 +56,7 @@ pub record Limited (w : List ℕ) (s : ℕ) : Type 0 where
 -- (e) of a session: "the rate each source last told its session is this one"
 pub record ToldItsRate (w : List ℕ) (s : ℕ) : Type 0 where
   pub last : Rate
-  pub told : (source_of w s).told ≡ told.Rate last
+  pub told : (source_of w s).told ≡ Some last
   pub same : Same last (source_of w s).rate
 
 pub record FiveConditions (w : List ℕ) : Type 0 where

@@ -1,15 +1,12 @@
 -- 01, "Settled: five conditions": the test of a table, one definition for each condition. w is the table's words.
 -- Assumes nothing: definitions.
-use Rattle.std.specs.Prelude.{Bool, false, not, true, ◌&&◌, ◌||◌, List, ℕ, eqb}
-use Rattle.ends.specs.declared.Told.{Told}
-use Rattle.ends.specs.declared.Told.TheVariants as told
+use Rattle.std.specs.Prelude.{Bool, false, not, ◌&&◌, ◌||◌, List, ℕ, eqb, Result, is_ok, None, Option, Some}
 use Rattle.ends.specs.Figure3.{D}
 use Rattle.fractions.specs.declared.Rate.{Rate}
 use Rattle.fractions.specs.Fraction.{le_of, same_of, whole_of}
 use Rattle.links.specs.declared.Bound.{Bound}
 use Rattle.links.specs.declared.Place.{Place}
-use Rattle.links.specs.declared.Total.{Total}
-use Rattle.links.specs.declared.Total.TheVariants as total
+use Rattle.links.specs.declared.NoTotal.{NoTotal}
 use Rattle.links.specs.Links.{B, R, below_b, equals_b, holds, in_f, in_r, is_idle, mu_at, rate_at, sum_of}
 use Rattle.records.specs.Format.{all}
 use Rattle.sessions.specs.Set.{has_of}
@@ -54,10 +51,8 @@ unfoldable pub members_rated : Bound → Place → Bool
 members_rated b p = all 32 (member_rated b p)
 
 -- a sum that was followed to its end is at most C (links, `upto_of`)
-abbrev pub is_at_most_c : Total → Bool
-is_at_most_c (total.Rate y) = true
-is_at_most_c total.TooFine = false
-is_at_most_c total.PastC = false
+abbrev pub is_at_most_c : Result Rate NoTotal → Bool
+is_at_most_c t = is_ok t
 
 unfoldable pub sum_rated : Place → Bool
 sum_rated p = not (eqb (R p) 0) || is_at_most_c (sum_of p)
@@ -91,9 +86,9 @@ condition_d w = all 32 (session_limited w)
 
 -- (e) "the rate each source last told its session is this one" --------------------------------------------------------
 
-abbrev pub is_told : Told → Rate → Bool
-is_told told.Never x = false
-is_told (told.Rate y) x = same_of y x
+abbrev pub is_told : Option Rate → Rate → Bool
+is_told None x = false
+is_told (Some y) x = same_of y x
 
 unfoldable pub session_told : List ℕ → ℕ → Bool
 session_told w s = not (source_of w s).active || is_told (source_of w s).told (source_of w s).rate

@@ -23,12 +23,12 @@ none_lengths = record { capacity = refl; access = refl; maximum = refl; path = r
 pub declare_lengths : (s : List ℕ) (d : Declared) (x : Record) → Lengths d → Lengths (declare_of s d x)
 unfolding declare_of
 declare_lengths s d (rec.Link e c) r = record { capacity = length-set d.capacity e c ∙ r.capacity; access = r.access; maximum = r.maximum; path = r.path }
-declare_lengths s d (rec.Session t a m n at) r =
+declare_lengths s d (rec.Session x) r =
     record {
       capacity = r.capacity;
-      access = length-set d.access t a ∙ r.access;
-      maximum = length-set d.maximum t m ∙ r.maximum;
-      path = copied_long 8 d.path (t * 8) s at ∙ r.path;
+      access = length-set d.access x.session x.access ∙ r.access;
+      maximum = length-set d.maximum x.session x.maximum ∙ r.maximum;
+      path = copied_long 8 d.path (x.session * 8) s x.path ∙ r.path;
     }
 declare_lengths s d (rec.Leave t) r = record { capacity = r.capacity; access = r.access; maximum = r.maximum; path = r.path }
 declare_lengths s d (rec.Change t m) r = record { capacity = r.capacity; access = r.access; maximum = r.maximum; path = r.path }

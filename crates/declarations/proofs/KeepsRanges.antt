@@ -43,11 +43,11 @@ declare_in_range : (s : List ℕ) (d : Declared) (x : Record) → InRange d → 
 unfolding declare_of
 declare_in_range s d (rec.Link e c) p h =
     record { capacity = set_at_most _ d.capacity e c h.2 p.capacity; access = p.access; maximum = p.maximum }
-declare_in_range s d (rec.Session t a m n at) p h =
+declare_in_range s d (rec.Session x) p h =
     record {
       capacity = p.capacity;
-      access = set_at_most _ d.access t a h.2 p.access;
-      maximum = set_at_most _ d.maximum t m h.3 p.maximum;
+      access = set_at_most _ d.access x.session x.access h.2 p.access;
+      maximum = set_at_most _ d.maximum x.session x.maximum h.3 p.maximum;
     }
 declare_in_range s d (rec.Leave t) p h = record { capacity = p.capacity; access = p.access; maximum = p.maximum }
 declare_in_range s d (rec.Change t m) p h = record { capacity = p.capacity; access = p.access; maximum = p.maximum }

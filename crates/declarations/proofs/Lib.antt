@@ -1,6 +1,5 @@
 -- Laws of declarations. A crate above cites them as Rattle.declarations.proofs.NAME.
 pub mod OwnLimit
-pub mod Fields
 pub mod Copied
 pub mod DeclaredPaths
 pub mod KeepsLengths

@@ -34,7 +34,7 @@ undeclared_none s bytes = run_keeps None call.Calculation (judging s) (declare_o
         other : Dec (e ≡ i) → get_or (set z.capacity e c) i 0 ≡ 0
         other (yes q) = absurd (omega (arith, m, ap (λ (v : ℕ). has v (put e z.links)) (sym q), has_put_same e z.links))
         other (no n) = get_or-set_other z.capacity e i c 0 (λ q. n (sym q)) ∙ p i (sym (has_put_other e i z.links n) ∙ m)
-    keeps z (rec.Session b a m n at) p i k = p i k
+    keeps z (rec.Session b) p i k = p i k
     keeps z (rec.Leave u) p i k = p i k
     keeps z (rec.Change u m) p i k = p i k
     keeps z (rec.Deliver q) p i k = p i k

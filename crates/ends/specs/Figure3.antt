@@ -2,7 +2,7 @@
 -- The source's own R and F hold at most its session: `free` says that it is in F, and while it is active it is else in R. `updated` is upd_rcv, `bottlenecked` is bneck_rcv, and
 -- API.Rate (s, λ) is kept as the rate last told (01).
 -- Assumes nothing: definitions.
-use Rattle.std.specs.Prelude.{Bool, cond, false, not, true, ◌&&◌, ◌||◌, ℕ, ◌≤◌}
+use Rattle.std.specs.Prelude.{Bool, cond, false, not, true, ◌&&◌, ◌||◌, ℕ, ◌≤◌, None, Option, Some}
 use Rattle.fractions.specs.declared.Rate.{Rate}
 use Rattle.fractions.specs.Fraction.{Sized, lt_of, max_rate, same_of, whole_of, zero_of}
 use Rattle.declarations.specs.Declaring.{own_limit_of}
@@ -11,14 +11,10 @@ use Rattle.tasks.specs.declared.Kind.{Kind}
 use Rattle.tasks.specs.declared.Kind.TheVariants as kind
 use Rattle.links.specs.declared.Mu.{Mu}
 use Rattle.links.specs.declared.Mu.TheVariants as mu
-use Rattle.tasks.specs.declared.Onward.{Onward}
-use Rattle.tasks.specs.declared.Onward.TheVariants as onward
 use Rattle.ends.specs.declared.Source.{Source}
 use Rattle.ends.specs.declared.SourceDid.{SourceDid}
 use Rattle.tasks.specs.declared.Tau.{Tau}
 use Rattle.tasks.specs.declared.Tau.TheVariants as tau
-use Rattle.ends.specs.declared.Told.{Told}
-use Rattle.ends.specs.declared.Told.TheVariants as told
 use Rattle.links.specs.Links.{is_idle}
 
 -- lines 4 and 12: D ← min(r, C); by 01 the smaller of access rate and maximum, or the access rate where there is no maximum
@@ -26,7 +22,7 @@ abbrev pub D : Source → ℕ
 D z = own_limit_of z.access z.maximum
 
 -- what the task keeps: `free`, μ, λ, upd_rcv, bneck_rcv, the rate last told. The rest of the source stays
-abbrev pub keeping : Source → Bool → Mu → Rate → Bool → Bool → Told → Source
+abbrev pub keeping : Source → Bool → Mu → Rate → Bool → Bool → Option Rate → Source
 keeping z f m x u b t = record {
   active = z.active;
   access = z.access;
@@ -40,7 +36,7 @@ keeping z f m x u b t = record {
 }
 
 -- the source after it, and what it sends
-abbrev pub doing : Source → Onward → SourceDid
+abbrev pub doing : Source → Option Kind → SourceDid
 doing z o = record { source = z; on = o }
 
 -- D > λ, and D = λ
@@ -51,8 +47,8 @@ abbrev pub at_d : Source → Rate → Bool
 at_d z x = same_of (whole_of (D z)) x
 
 -- send downstream Probe (s, D, e): the source's own line is η
-abbrev pub probing : Source → Onward
-probing z = onward.Send (kind.Probe (whole_of (D z)) eta.Own)
+abbrev pub probing : Source → Option Kind
+probing z = Some (kind.Probe (whole_of (D z)) eta.Own)
 
 -- API.Join, lines 3 to 6. 01: no rate has been told at a join
 unfoldable pub joining_of : ℕ → ℕ → SourceDid
@@ -66,9 +62,9 @@ joining_of access maximum =
       rate = zero_of;  -- ours: the figure sets none
       updated = false;  -- 5
       bottlenecked = false;  -- 5
-      told = told.Never;
+      told = None;
     } in
-    doing z (onward.Send (kind.Join (whole_of (D z)) eta.Own))  -- 6
+    doing z (Some (kind.Join (whole_of (D z)) eta.Own))  -- 6
 
 -- API.Leave, lines 8 and 9: the session is in neither R nor F any more
 unfoldable pub leaving_of : Source → SourceDid
@@ -85,7 +81,7 @@ leaving_of z =
       bottlenecked = z.bottlenecked;
       told = z.told;
     })
-    (onward.Send kind.Leave)
+    (Some kind.Leave)
 
 -- line 12
 abbrev pub with_maximum : Source → ℕ → Source
@@ -103,7 +99,7 @@ with_maximum z m = record {
 
 -- lines 18 and 25: upd_rcv ← TRUE
 abbrev pub noted_of : Source → SourceDid
-noted_of z = doing (keeping z z.free z.mu z.rate true z.bottlenecked z.told) onward.Nothing
+noted_of z = doing (keeping z z.free z.mu z.rate true z.bottlenecked z.told) None
 
 -- lines 13 to 18, where D is the new one
 unfoldable pub request_of : Source → SourceDid
@@ -127,15 +123,15 @@ source_update_of z =
 unfoldable pub announced_of : Source → SourceDid
 announced_of z =
     let x = z.rate in
-    doing (keeping z (below_d z x || z.free) z.mu x z.updated true (told.Rate x))  -- 29, 30; 39 to 41
-    (onward.Send (kind.SetBottleneck (at_d z x)))  -- 31; 42
+    doing (keeping z (below_d z x || z.free) z.mu x z.updated true (Some x))  -- 29, 30; 39 to 41
+    (Some (kind.SetBottleneck (at_d z x)))  -- 31; 42
 
 -- Bottleneck (s), lines 27 to 31
 unfoldable pub source_bottleneck_of : Source → SourceDid
 source_bottleneck_of z =
     cond (is_idle z.mu && not z.bottlenecked)  -- 28
     (announced_of z)  -- 29 to 31
-    (doing z onward.Nothing)
+    (doing z None)
 
 -- lines 35 to 37
 unfoldable pub again_of : Source → SourceDid
@@ -150,8 +146,8 @@ unfoldable pub assigned_of : Source → Rate → SourceDid
 assigned_of z x =
     let q = idle_with z x in  -- 44
     cond (at_d q x)  -- 45
-    (doing (keeping q q.free q.mu x q.updated true (told.Rate x)) (onward.Send (kind.SetBottleneck true)))  -- 46, 47
-    (doing q onward.Nothing)
+    (doing (keeping q q.free q.mu x q.updated true (Some x)) (Some (kind.SetBottleneck true)))  -- 46, 47
+    (doing q None)
 
 -- Response (s, τ, λ, η), lines 33 to 47
 unfoldable pub source_response_of : Source → Tau → Rate → SourceDid
@@ -164,14 +160,14 @@ unfoldable pub arrived_of : Kind → Source → SourceDid
 arrived_of (kind.Response τ x η) z = source_response_of z τ x
 arrived_of kind.Update z = source_update_of z
 arrived_of kind.Bottleneck z = source_bottleneck_of z
-arrived_of (kind.Join x η) z = doing z onward.Nothing
-arrived_of (kind.Probe x η) z = doing z onward.Nothing
-arrived_of (kind.SetBottleneck β) z = doing z onward.Nothing
-arrived_of kind.Leave z = doing z onward.Nothing
+arrived_of (kind.Join x η) z = doing z None
+arrived_of (kind.Probe x η) z = doing z None
+arrived_of (kind.SetBottleneck β) z = doing z None
+arrived_of kind.Leave z = doing z None
 
 -- THE TASK. 01: "any packet that reaches a source which has left, is dropped"
 unfoldable pub source_step_of : Kind → Source → SourceDid
-source_step_of k z = cond z.active (arrived_of k z) (doing z onward.Nothing)
+source_step_of k z = cond z.active (arrived_of k z) (doing z None)
 
 -- WHAT THE ARITHMETIC NEEDS -------------------------------------------------------------------------------------------
 

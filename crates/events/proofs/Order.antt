@@ -5,6 +5,7 @@ use mathlib.Core.Bool.{false, true}
 use mathlib.Core.List.{List}
 use mathlib.Core.Path.{◌≡◌, refl, sym}
 use Prim.Native.Nat.{ℕ}
+use Rattle.records.specs.Format.{a_session}
 use Rattle.records.specs.Limits.{above_line}
 use Rattle.records.specs.declared.Record.TheVariants as rec
 use Rattle.records.specs.declared.Refusal.TheVariants as refusal
@@ -14,12 +15,12 @@ use Rattle.events.proofs.Steps.{change_above, change_not, join_above, join_activ
 
 -- a session record: 7 whatever the maximum, then 16 whatever the path (8) and the packets in flight (10, 13)
 module _ (s w : List ℕ) (t access maximum n at : ℕ) where
-  pub seven_before_16 : (source_of w t).active ≡ true → event_of s w (rec.Session t access maximum n at) ≡ refusing refusal.AlreadyThere w
+  pub seven_before_16 : (source_of w t).active ≡ true → event_of s w (a_session t access maximum n at) ≡ refusing refusal.AlreadyThere w
   unfolding event_of
   seven_before_16 a = join_active s w t access maximum n at (source_of w t) refl a
 
   pub sixteen_before_8_10_13 : (source_of w t).active ≡ false → above_line access maximum ≡ true
-      → event_of s w (rec.Session t access maximum n at) ≡ refusing refusal.AboveLine w
+      → event_of s w (a_session t access maximum n at) ≡ refusing refusal.AboveLine w
   unfolding event_of
   sixteen_before_8_10_13 a b = join_above s w t access maximum n at (source_of w t) refl a b
 

@@ -1,5 +1,6 @@
 -- A refused record leaves the words as they were.
 -- Assumes nothing.
+use Rattle.std.specs.Prelude.{Err}
 use mathlib.Core.Bool.{Bool, cond, false, true, ◌&&◌}
 use mathlib.Core.List.{List}
 use mathlib.Core.Path.{◌≡◌, refl, sym}
@@ -12,8 +13,7 @@ use Rattle.records.specs.Limits.{above_line}
 use Rattle.records.specs.declared.Record.{Record}
 use Rattle.records.specs.declared.Record.TheVariants as rec
 use Rattle.records.specs.declared.Refusal.{Refusal}
-use Rattle.records.specs.declared.Verdict.TheVariants as verdict
-use Rattle.records.proofs.Refused.{not_taken}
+use Rattle.records.proofs.Refusing.{not_ok}
 use Rattle.table.specs.Words.{count_of, declared_in, hops_of, packet_of, place_of, put_hops, put_path, source_of, stop_of}
 use Rattle.sessions.specs.Set.{size_of}
 use Rattle.tasks.specs.declared.Packet.{Packet}
@@ -23,13 +23,13 @@ use Rattle.events.specs.Events.{Step, arrive_of, at_destination_of, at_link_of, 
 
 -- the step ends with the words w where it is refused
 record Keeps (w : List ℕ) (x : Step) : Type 0 where
-  kept : (r : Refusal) → x.verdict ≡ verdict.Refused r → x.words ≡ w
+  kept : (r : Refusal) → x.verdict ≡ Err r → x.words ≡ w
 
 refuses : (w : List ℕ) (r : Refusal) → Keeps w (refusing r w)
 refuses w r = record { kept = λ q e. refl }
 
 takes : (w v : List ℕ) → Keeps w (taking v)
-takes w v = record { kept = λ r e. absurd (not_taken r (sym e)) }
+takes w v = record { kept = λ r e. absurd (not_ok r tt (sym e)) }
 
 either : (w : List ℕ) (t : Bool) (x y : Step) → Keeps w x → Keeps w y → Keeps w (cond t x y)
 either w true x y k l = k
@@ -94,10 +94,10 @@ changes w t m =
     (either w (above_line (source_of w t).access m) _ _ (refuses w _) (sends w w t (changing_of (source_of w t) m)))
     (refuses w _)
 
-pub refused_keeps : (s w : List ℕ) (x : Record) (r : Refusal) → (event_of s w x).verdict ≡ verdict.Refused r → (event_of s w x).words ≡ w
+pub refused_keeps : (s w : List ℕ) (x : Record) (r : Refusal) → (event_of s w x).verdict ≡ Err r → (event_of s w x).words ≡ w
 unfolding event_of
 refused_keeps s w (rec.Link e c) = (declares w e c).kept
-refused_keeps s w (rec.Session t access maximum n at) = (joins s w t access maximum n at).kept
+refused_keeps s w (rec.Session x) = (joins s w x.session x.access x.maximum x.size x.path).kept
 refused_keeps s w (rec.Leave t) = (leaves w t).kept
 refused_keeps s w (rec.Change t m) = (changes w t m).kept
 refused_keeps s w (rec.Deliver i) = (delivers w i).kept

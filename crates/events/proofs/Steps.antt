@@ -1,5 +1,6 @@
 -- Each way out of a step, from what its calls answered.
 -- Assumes nothing.
+use Rattle.std.specs.Prelude.{Option}
 use mathlib.Core.Bool.{Bool, cond, false, not, true}
 use mathlib.Core.List.{List}
 use mathlib.Core.Path.{◌≡◌, ap, ap₂, sym, ◌∙◌}
@@ -16,11 +17,11 @@ use Rattle.records.specs.declared.Refusal.TheVariants as refusal
 use Rattle.sessions.specs.Set.{size_of}
 use Rattle.table.specs.Words.{count_of, place_of, put_hops, put_path, put_place, put_source, removed, source_of}
 use Rattle.tasks.specs.declared.Did.{Did}
-use Rattle.tasks.specs.declared.Onward.{Onward}
 use Rattle.tasks.specs.declared.Packet.{Packet}
 use Rattle.tasks.specs.Figure2.{link_step_of}
 use Rattle.events.specs.Events.{Step, at_destination_of, at_link_of, at_source_of, change_of, join_of, leave_of, path_declared_in, refusing, source_sends, taking, unless_many}
 use Rattle.sending.specs.Sending.{none_of, on_path_of, one_if, send_all_of, send_on_of}
+use Rattle.tasks.specs.declared.Kind.{Kind}
 
 -- REFUSAL 13 ----------------------------------------------------------------------------------------------------------
 
@@ -81,13 +82,13 @@ module _ (w : List ℕ) (i : ℕ) (p : Packet) where
     pub source_done : n - 1 + o ≤ 256 → (v : List ℕ) → v ≡ source_writes d → at_source_of w i p ≡ taking v
     source_done l v x = at_source_is ∙ (few _ (n - 1 + o) w _ (ap₂ (λ a b. a - 1 + b) en eo) l ∙ ap taking (sym x))
 
-  module _ (d : Onward) (n o : ℕ) (is : d ≡ destination_step_of p.kind) (en : n ≡ count_of w) (eo : o ≡ one_if d) where
-    abbrev destination_writes : Onward → List ℕ
+  module _ (d : Option Kind) (n o : ℕ) (is : d ≡ destination_step_of p.kind) (en : n ≡ count_of w) (eo : o ≡ one_if d) where
+    abbrev destination_writes : Option Kind → List ℕ
     destination_writes x = send_on_of (removed w i) p.session p.hop x
 
     at_destination_is : at_destination_of w i p ≡ unless_many (count_of w - 1 + one_if d) w (destination_writes d)
     unfolding at_destination_of
-    at_destination_is = ap (λ (x : Onward). unless_many (count_of w - 1 + one_if x) w (destination_writes x)) (sym is)
+    at_destination_is = ap (λ (x : Option Kind). unless_many (count_of w - 1 + one_if x) w (destination_writes x)) (sym is)
 
     pub destination_many : 256 < n - 1 + o → at_destination_of w i p ≡ refusing refusal.TooManyPackets w
     destination_many l = at_destination_is ∙ too_many _ (n - 1 + o) w _ (ap₂ (λ a b. a - 1 + b) en eo) l

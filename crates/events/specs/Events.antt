@@ -1,7 +1,7 @@
 -- The events of the machine (01, "Records", "What is turned away"): what each record that was read does to the words w, and refusals 7 to 13 in
 -- number order, with 16 (02, §1) directly after 7 and after 9. A refused record leaves the words as they were.
 -- Assumes nothing: definitions.
-use Rattle.std.specs.Prelude.{Bool, cond, ◌&&◌, List, ℕ, ◌+◌, ◌-◌, eqb, ltb, get_or}
+use Rattle.std.specs.Prelude.{Bool, cond, ◌&&◌, List, ℕ, ◌+◌, ◌-◌, eqb, ltb, get_or, Result, Ok, Err, ⊤}
 use Rattle.ends.specs.Figure3.{changing_of, joining_of, leaving_of, source_step_of}
 use Rattle.ends.specs.Figure4.{destination_step_of}
 use Rattle.ends.specs.declared.SourceDid.{SourceDid}
@@ -10,8 +10,6 @@ use Rattle.records.specs.declared.Record.{Record}
 use Rattle.records.specs.declared.Record.TheVariants as rec
 use Rattle.records.specs.declared.Refusal.{Refusal}
 use Rattle.records.specs.declared.Refusal.TheVariants as refusal
-use Rattle.records.specs.declared.Verdict.{Verdict}
-use Rattle.records.specs.declared.Verdict.TheVariants as verdict
 use Rattle.records.specs.Format.{all}
 use Rattle.records.specs.Limits.{above_line, link_limit, packet_limit}
 use Rattle.sessions.specs.Set.{size_of}
@@ -22,17 +20,17 @@ use Rattle.sending.specs.Sending.{in_turn_of, none_of, on_path_of, one_if, send_
 
 -- whether a record is taken, and the words after it
 pub record Step : Type 0 where
-  pub verdict : Verdict
+  pub verdict : Result ⊤ Refusal
   pub words : List ℕ
 
-abbrev pub ended : Verdict → List ℕ → Step
+abbrev pub ended : Result ⊤ Refusal → List ℕ → Step
 ended v w = record { verdict = v; words = w }
 
 abbrev pub refusing : Refusal → List ℕ → Step
-refusing r w = ended (verdict.Refused r) w
+refusing r w = ended (Err r) w
 
 abbrev pub taking : List ℕ → Step
-taking w = ended verdict.Taken w
+taking w = ended (Ok tt) w
 
 -- refusal 13, where so many packets are in flight after the step
 abbrev pub unless_many : ℕ → List ℕ → List ℕ → Step
@@ -116,7 +114,7 @@ change_of w t maximum =
 -- what a record of the input s does
 unfoldable pub event_of : List ℕ → List ℕ → Record → Step
 event_of s w (rec.Link e capacity) = declare_of w e capacity
-event_of s w (rec.Session t access maximum n at) = join_of s w t access maximum n at
+event_of s w (rec.Session x) = join_of s w x.session x.access x.maximum x.size x.path
 event_of s w (rec.Leave t) = leave_of w t
 event_of s w (rec.Change t maximum) = change_of w t maximum
 event_of s w (rec.Deliver position) = deliver_of w position

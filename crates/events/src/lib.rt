@@ -13,8 +13,8 @@ ghost use Rattle.events.specs.Events.{arrive_of, at_destination_of, at_link_of, 
 
 use ends::SourceDid;
 use links::Link;
-use records::{Record, Refusal, Verdict};
-use tasks::{Did, Onward, Packet};
+use records::{Record, Refusal, SessionRecord};
+use tasks::{Did, Kind, Packet};
 
 // DELIVERY ------------------------------------------------------------------------------------------------------------
 
@@ -33,7 +33,7 @@ fn write_link(t: &mut [u64; 9153], i: usize, p: Packet, e: usize, d: Did, to: u3
 }
 
 // A packet reaches link e.
-fn at_link(t: &mut [u64; 9153], i: usize, p: Packet, e: usize) -> Verdict
+fn at_link(t: &mut [u64; 9153], i: usize, p: Packet, e: usize) -> Result<(), Refusal>
     requires { (i < count_of t.old) × PacketInRange p × (e < 64) }
     ensures { ended result t.new ≡ at_link_of t.old i p e }
 {
@@ -41,17 +41,17 @@ fn at_link(t: &mut [u64; 9153], i: usize, p: Packet, e: usize) -> Verdict
     let kind = p.kind;
     let d = tasks::link_step(e as u32, p.session, kind, place);
     if !d.fine {
-        return Verdict::Refused(Refusal::TooFine);
+        return Err(Refusal::TooFine);
     }
     let to = sending::on_path(t, e, d.to);
     let on = d.on;
     let n = table::count(t);
     let after = n - 1 + (sessions::size(to) as usize) + sending::one_if(on);
     if records::PACKETS < after {
-        return Verdict::Refused(Refusal::TooManyPackets);
+        return Err(Refusal::TooManyPackets);
     }
     write_link(t, i, p, e, d, to);
-    Verdict::Taken
+    Ok(())
 }
 
 // What a source's step leaves is written, where the packet at place i is taken out.
@@ -67,7 +67,7 @@ fn write_source(t: &mut [u64; 9153], i: usize, s: u32, d: SourceDid)
 }
 
 // A packet reaches its source.
-fn at_source(t: &mut [u64; 9153], i: usize, p: Packet) -> Verdict
+fn at_source(t: &mut [u64; 9153], i: usize, p: Packet) -> Result<(), Refusal>
     requires { (i < count_of t.old) × PacketInRange p }
     ensures { ended result t.new ≡ at_source_of t.old i p }
 {
@@ -78,14 +78,14 @@ fn at_source(t: &mut [u64; 9153], i: usize, p: Packet) -> Verdict
     let n = table::count(t);
     let after = n - 1 + sending::one_if(on);
     if records::PACKETS < after {
-        return Verdict::Refused(Refusal::TooManyPackets);
+        return Err(Refusal::TooManyPackets);
     }
     write_source(t, i, p.session, d);
-    Verdict::Taken
+    Ok(())
 }
 
 // A packet reaches its destination.
-fn at_destination(t: &mut [u64; 9153], i: usize, p: Packet) -> Verdict
+fn at_destination(t: &mut [u64; 9153], i: usize, p: Packet) -> Result<(), Refusal>
     requires { (i < count_of t.old) × PacketInRange p }
     ensures { ended result t.new ≡ at_destination_of t.old i p }
 {
@@ -94,15 +94,15 @@ fn at_destination(t: &mut [u64; 9153], i: usize, p: Packet) -> Verdict
     let n = table::count(t);
     let after = n - 1 + sending::one_if(on);
     if records::PACKETS < after {
-        return Verdict::Refused(Refusal::TooManyPackets);
+        return Err(Refusal::TooManyPackets);
     }
     table::remove(t, i);
     sending::send_on(t, p.session, p.hop, on);
-    Verdict::Taken
+    Ok(())
 }
 
 // A packet arrives where its hop says.
-fn arrive(t: &mut [u64; 9153], i: usize, p: Packet) -> Verdict
+fn arrive(t: &mut [u64; 9153], i: usize, p: Packet) -> Result<(), Refusal>
     requires { (i < count_of t.old) × PacketInRange p }
     ensures { ended result t.new ≡ arrive_of t.old i p }
 {
@@ -118,15 +118,15 @@ fn arrive(t: &mut [u64; 9153], i: usize, p: Packet) -> Verdict
 }
 
 // Deliver the packet at a position.
-fn deliver(t: &mut [u64; 9153], i: usize) -> Verdict
+fn deliver(t: &mut [u64; 9153], i: usize) -> Result<(), Refusal>
     ensures { ended result t.new ≡ deliver_of t.old i }
 {
     let n = table::count(t);
     if n <= i {
-        return Verdict::Refused(Refusal::BadPosition);
+        return Err(Refusal::BadPosition);
     }
     if !sending::in_turn(t, i) {
-        return Verdict::Refused(Refusal::BadPosition);
+        return Err(Refusal::BadPosition);
     }
     let p = table::packet_at(t, i);
     arrive(t, i, p)
@@ -144,12 +144,12 @@ fn is_declared(t: &[u64; 9153], e: usize) -> bool
 }
 
 // Declare a link.
-fn declare(t: &mut [u64; 9153], e: u32, capacity: u64) -> Verdict
+fn declare(t: &mut [u64; 9153], e: u32, capacity: u64) -> Result<(), Refusal>
     requires { e < 64 }
     ensures { ended result t.new ≡ declare_of t.old e capacity }
 {
     if is_declared(t, e as usize) {
-        return Verdict::Refused(Refusal::AlreadyThere);
+        return Err(Refusal::AlreadyThere);
     }
     let l = Link {
         capacity: capacity,
@@ -157,17 +157,14 @@ fn declare(t: &mut [u64; 9153], e: u32, capacity: u64) -> Verdict
         f: 0,
     };
     table::put_link(t, e as usize, l);
-    Verdict::Taken
+    Ok(())
 }
 
 // Whether a byte of a path is a declared link.
 fn byte_declared(t: &[u64; 9153], e: usize) -> bool
     ensures { result ≡ ltb e link_limit && declared_in t.now e }
 {
-    if 64 <= e {
-        return false;
-    }
-    is_declared(t, e)
+    e < 64 && is_declared(t, e)
 }
 
 // Whether all n links of a path are declared.
@@ -175,17 +172,13 @@ fn path_declared(t: &[u64; 9153], s: &[u8], at: usize, n: usize) -> bool
     requires { (n ≤ 8) × (at + 8 ≤ length s.now) }
     ensures { result ≡ path_declared_in t.now s.now at n }
 {
-    for h in 0..n {
-        let e = records::wide(s[at + h]);
-        if !byte_declared(t, e as usize) {
-            return false;
-        }
-    }
-    true
+    s[at..at + n]
+        .iter()
+        .all(|e| byte_declared(t, usize::from(*e)))
 }
 
 // Whether a source's step has room for what it sends.
-fn has_room(t: &[u64; 9153], on: Onward) -> bool
+fn has_room(t: &[u64; 9153], on: Option<Kind>) -> bool
     ensures { result ≡ not (ltb packet_limit (count_of t.now + one_if on)) }
 {
     let n = table::count(t);
@@ -193,93 +186,86 @@ fn has_room(t: &[u64; 9153], on: Onward) -> bool
 }
 
 // A session's source changes and sends.
-fn source_sends(t: &mut [u64; 9153], s: u32, d: SourceDid) -> Verdict
+fn source_sends(t: &mut [u64; 9153], s: u32, d: SourceDid) -> Result<(), Refusal>
     requires { s < 32 }
     ensures { ended result t.new ≡ source_sends t.old t.old s d }
 {
     let source = d.source;
     let on = d.on;
     if !has_room(t, on) {
-        return Verdict::Refused(Refusal::TooManyPackets);
+        return Err(Refusal::TooManyPackets);
     }
     table::put_source(t, s as usize, source);
     sending::send_on(t, s, 0, on);
-    Verdict::Taken
+    Ok(())
 }
 
 // A session's path, its source, and what it sends.
-fn write_join(t: &mut [u64; 9153], s: &[u8], x: u32, n: usize, at: usize, d: SourceDid)
-    requires { (x < 32) × (at + 8 ≤ length s.now) }
-    ensures { t.new ≡ send_on_of (put_source (put_hops (put_path t.old x s.now at) x n) x d.source) x 0 d.on }
+fn write_join(t: &mut [u64; 9153], s: &[u8], x: SessionRecord, d: SourceDid)
+    requires { (x.session < 32) × (x.path + 8 ≤ length s.now) }
+    ensures { t.new ≡ send_on_of (put_source (put_hops (put_path t.old x.session s.now x.path) x.session x.size) x.session d.source) x.session 0 d.on }
 {
     let source = d.source;
     let on = d.on;
-    table::put_path(t, x as usize, s, at);
-    table::put_hops(t, x as usize, n);
-    table::put_source(t, x as usize, source);
-    sending::send_on(t, x, 0, on);
+    let i = x.session as usize;
+    table::put_path(t, i, s, x.path);
+    table::put_hops(t, i, x.size);
+    table::put_source(t, i, source);
+    sending::send_on(t, x.session, 0, on);
 }
 
 // A session joins.
-fn join(
-    t: &mut [u64; 9153],
-    s: &[u8],
-    x: u32,
-    access: u64,
-    maximum: u64,
-    n: usize,
-    at: usize,
-) -> Verdict
-    requires { (x < 32) × (n ≤ 8) × (at + 8 ≤ length s.now) }
-    ensures { ended result t.new ≡ join_of s.now t.old x access maximum n at }
+fn join(t: &mut [u64; 9153], s: &[u8], x: SessionRecord) -> Result<(), Refusal>
+    requires { (x.session < 32) × (x.size ≤ 8) × (x.path + 8 ≤ length s.now) }
+    ensures { ended result t.new ≡ join_of s.now t.old x.session x.access x.maximum x.size x.path }
 {
-    let z = table::source_at(t, x as usize);
+    let z = table::source_at(t, x.session as usize);
     if z.active {
-        return Verdict::Refused(Refusal::AlreadyThere);
+        return Err(Refusal::AlreadyThere);
     }
-    if records::above_line(access, maximum) {
-        return Verdict::Refused(Refusal::AboveLine);
+    if records::above_line(x.access, x.maximum) {
+        return Err(Refusal::AboveLine);
     }
-    if !path_declared(t, s, at, n) {
-        return Verdict::Refused(Refusal::UndeclaredLink);
+    if !path_declared(t, s, x.path, x.size) {
+        return Err(Refusal::UndeclaredLink);
     }
     let count = table::count(t);
-    if !sending::none_of(t, x, count) {
-        return Verdict::Refused(Refusal::StillLeaving);
+    if !sending::none_of(t, x.session, count) {
+        return Err(Refusal::StillLeaving);
     }
-    let d = ends::joining(access, maximum);
+    let d = ends::joining(x.access, x.maximum);
     let on = d.on;
     if !has_room(t, on) {
-        return Verdict::Refused(Refusal::TooManyPackets);
+        return Err(Refusal::TooManyPackets);
     }
-    write_join(t, s, x, n, at, d);
-    Verdict::Taken
+    write_join(t, s, x, d);
+    Ok(())
 }
 
 // A session leaves.
-fn leave(t: &mut [u64; 9153], x: u32) -> Verdict
+fn leave(t: &mut [u64; 9153], x: u32) -> Result<(), Refusal>
     requires { x < 32 }
     ensures { ended result t.new ≡ leave_of t.old x }
 {
     let z = table::source_at(t, x as usize);
     if !z.active {
-        return Verdict::Refused(Refusal::NotActive);
+        return Err(Refusal::NotActive);
     }
     let d = ends::leaving(z);
     source_sends(t, x, d)
 }
 
 // A session changes its maximum.
-fn change(t: &mut [u64; 9153], x: u32, maximum: u64) -> Verdict
+fn change(t: &mut [u64; 9153], x: u32, maximum: u64) -> Result<(), Refusal>
     requires { x < 32 }
     ensures { ended result t.new ≡ change_of t.old x maximum }
 {
     let z = table::source_at(t, x as usize);
     if !z.active {
-        return Verdict::Refused(Refusal::NotActive);
+        return Err(Refusal::NotActive);
     }
     if records::above_line(z.access, maximum) {
-        return Verdict::Refused(Refusal::AboveLine);
+        return Err(Refusal::AboveLine);
     }
     let d = ends::changing(z, maximum);
     source_sends(t, x, d)
@@ -288,20 +274,14 @@ fn change(t: &mut [u64; 9153], x: u32, maximum: u64) -> Verdict
 // A RECORD ------------------------------------------------------------------------------------------------------------
 
 // What a record does, and whether it is taken: refusals 7 to 13 and 16.
-pub fn event(t: &mut [u64; 9153], s: &[u8], x: Record) -> Verdict
+pub fn event(t: &mut [u64; 9153], s: &[u8], x: Record) -> Result<(), Refusal>
     requires { RecordOk s.now x }
     ensures exact { ended result t.new ≡ event_of s.now t.old x }
     ensures said { verdict_number result ≡ verdict_number (event_of s.now t.old x).verdict }
 {
     match x {
         Record::Link { link, capacity } => declare(t, link, capacity),
-        Record::Session {
-            session,
-            access,
-            maximum,
-            size,
-            path,
-        } => join(t, s, session, access, maximum, size, path),
+        Record::Session(x) => join(t, s, x),
         Record::Leave { session } => leave(t, session),
         Record::Change { session, maximum } => change(t, session, maximum),
         Record::Deliver { position } => deliver(t, position),

@@ -11,49 +11,48 @@ ghost use Rattle.exports.specs.Meanings.{BindsWhereTaken, FairWhereTaken, Record
 ghost use Rattle.exports.specs.Reports.{calculation_report_of, end_report_of, run_report_of, settled_number_of, wrote_report_of};
 
 use calculation::Calculated;
-use ends::Told;
-use machine::{Session, SettledAnswer};
-use records::End;
-use writing::Wrote;
+use fractions::Rate;
+use machine::Session;
+use records::Refused;
 
 // The number, the place, the declared links and the declared sessions.
-fn calculation_report(answer: Calculated) -> [u64; 4]
+fn calculation_report(answer: Result<Calculated, Refused>) -> [u64; 4]
     ensures { result ≡ calculation_report_of answer }
 {
     match answer {
-        Calculated::Done { links, sessions } => [0, 0, links, sessions as u64],
-        Calculated::Refused { refusal, place } => [records::number(refusal), place as u64, 0, 0],
+        Ok(x) => [0, 0, x.links, x.sessions as u64],
+        Err(r) => [u64::from(r.refusal), r.place as u64, 0, 0],
     }
 }
 
 // The number, the place and the records taken.
-fn end_report(taken: usize, end: End) -> [u64; 3]
+fn end_report(taken: usize, end: Result<(), Refused>) -> [u64; 3]
     ensures { result ≡ end_report_of taken end }
 {
     match end {
-        End::Finished => [0, 0, taken as u64],
-        End::Refused { refusal, place } => [records::number(refusal), place as u64, taken as u64],
+        Ok(()) => [0, 0, taken as u64],
+        Err(r) => [u64::from(r.refusal), r.place as u64, taken as u64],
     }
 }
 
 // 1 for yes, 0 for no, or the refusal's number.
-fn settled_number(answer: SettledAnswer) -> u64
+fn settled_number(answer: Result<bool, Refused>) -> u64
     ensures { result ≡ settled_number_of answer }
 {
     match answer {
-        SettledAnswer::Yes => 1,
-        SettledAnswer::No => 0,
-        SettledAnswer::Refused { refusal, place } => records::number(refusal),
+        Ok(true) => 1,
+        Ok(false) => 0,
+        Err(r) => u64::from(r.refusal),
     }
 }
 
 // That a session is active, and the rate last told to it.
-fn told_report(told: Told) -> [u64; 3]
+fn told_report(told: Option<Rate>) -> [u64; 3]
     ensures { result ≡ told_report_of told }
 {
     match told {
-        Told::Never => [1, 0, 0],
-        Told::Rate(x) => [1, x.num, x.den],
+        None => [1, 0, 0],
+        Some(x) => [1, x.num, x.den],
     }
 }
 
@@ -68,12 +67,12 @@ fn session_report(session: Session) -> [u64; 3]
 }
 
 // The number, the place and the bytes written.
-fn wrote_report(answer: Wrote) -> [u64; 3]
+fn wrote_report(answer: Result<usize, Refused>) -> [u64; 3]
     ensures { result ≡ wrote_report_of answer }
 {
     match answer {
-        Wrote::Bytes(n) => [0, 0, n as u64],
-        Wrote::Refused { refusal, place } => [records::number(refusal), place as u64, 0],
+        Ok(n) => [0, 0, n as u64],
+        Err(r) => [u64::from(r.refusal), r.place as u64, 0],
     }
 }
 

@@ -1,12 +1,12 @@
 -- With 32 sessions every share that Figure 1 forms, at any link in any round, has a denominator of at most 118,098 (01, "Fractions").
 -- Assumes nothing.
+use Rattle.std.specs.Prelude.{Ok}
 use mathlib.Core.Path.{◌≡◌, ap, subst, sym, ◌∙◌}
 use Prim.Native.Nat.{ℕ, ◌*◌, ◌-◌, ◌≤◌, ◌<◌}
 use borrow.Author.Tests.{le-leb}
 use native.Mathlib.Nat.{le_trans, mul-pos}
 use native.Mathlib.Omega.{arith}
 use Rattle.fractions.specs.Fraction.{each_of, lowest_of, share_of}
-use Rattle.fractions.specs.declared.Share.TheVariants as share
 use Rattle.fractions.proofs.Shares.{share_over}
 use Rattle.fractions.proofs.LowestTerms.{lowest_den, lowest_lowest, lowest_same}
 use Rattle.fairness.specs.Figure1.{begin, is_fixed, left_at, load_at, net, open_at, rate, rounds}
@@ -39,7 +39,7 @@ pub figure1_share_fine : (p : Problem) → p.sessions ≤ 32 → (k e : ℕ) →
     → let z = rounds (net p) k (begin p) in
     0 < open_at (net p) (is_fixed z) e
     → share_of (p.capacity e) (lowest_of (load_at (net p) (rate z) e) z.den) (open_at (net p) (is_fixed z) e)
-    ≡ share.Rate (lowest_of (left_at (net p) z.den (rate z) e) (z.den * open_at (net p) (is_fixed z) e))
+    ≡ Ok (lowest_of (left_at (net p) z.den (rate z) e) (z.den * open_at (net p) (is_fixed z) e))
 unfolding share_of left_at
 figure1_share_fine p few k e link some =
     let z = rounds (net p) k (begin p) in

@@ -26,8 +26,9 @@ use Rattle.declarations.specs.declared.Declared.{Declared}
 use Rattle.filling.specs.Lines.{problem_of}
 use Rattle.filling.specs.OneRound.{LinksAfter, Remembered, Running, fixed_in}
 use Rattle.filling.specs.SmallestShare.{LinksFit, parts_limit, word_of}
-use Rattle.filling.specs.State.{Fill, Links, fill_of}
+use Rattle.filling.specs.State.{Fill, fill_of}
 use Rattle.filling.specs.declared.Given.{Given}
+use Rattle.filling.specs.declared.Links.{Links}
 use Rattle.filling.proofs.OpenSessions.{T-one, few, left_is, member_link, ones_sum, open_ones, room_link, weights, word_link}
 use Rattle.filling.proofs.RoundOfFigure1.{Turn, open_after}
 

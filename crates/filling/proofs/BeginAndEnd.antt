@@ -19,11 +19,12 @@ use Rattle.fairness.proofs.Figure1IsFair.{filling_begins, filling_ends_fair, loa
 use Rattle.fairness.proofs.NetOfProblem.{cap_link, load_link, on_link}
 use Rattle.fairness.proofs.Products.{one_largest}
 use Rattle.declarations.specs.declared.Declared.{Declared}
-use Rattle.filling.specs.Crossings.{Crossing, words_of}
+use Rattle.filling.specs.Crossings.{Crossing}
 use Rattle.filling.specs.Lines.{Filled, Highest, Ranges, crosses_of, problem_of}
 use Rattle.filling.specs.OneRound.{Running, fixed_in}
 use Rattle.filling.specs.SmallestShare.{Counted}
-use Rattle.filling.specs.State.{Fill, fill_of, links_of}
+use Rattle.filling.specs.State.{Fill, fill_of}
+use Rattle.filling.specs.declared.Links.{Links}
 use Rattle.filling.proofs.OpenSessions.{few}
 
 -- THE BEGINNING -------------------------------------------------------------------------------------------------------
@@ -41,18 +42,18 @@ at_first false (suc zero) a l q = (λ t. absurd t, λ t. q)
 at_first c (suc (suc h)) a l q = absurd (omega arith)
 
 pub start_running : (d : Declared) → Ranges d → d.sessions < 4294967296 → length d.capacity ≡ 64
-    → (busy : ℕ) (at count last rate : List ℕ) → Crossing d.path d.sessions (words_of busy at) → Counted at count → length count ≡ 64
-    → last ≡ replicate 64 0 → rate ≡ replicate 32 0
-    → Running d (fill_of 1 d.sessions (links_of busy d.capacity at count last) rate)
+    → (k : Links) (count rate : List ℕ) → Crossing d.path d.sessions k → Counted k.at count → length count ≡ 64
+    → k.room ≡ d.capacity → k.last ≡ replicate 64 0 → rate ≡ replicate 32 0
+    → Running d (fill_of 1 d.sessions (record k { count = count }) rate)
 unfolding problem_of left_at
-start_running d ranges small long busy at count last rate c n counts zeros q =
+start_running d ranges small long k count rate c n counts rooms zeros q =
     record {
       ranges = ranges;
       word = small;
-      links = record { room = λ e h. omega (arith, ranges.capacity e h); at = c.small; count = n; busy = c.busy };
+      links = record { room = λ e h. omega (arith, ap (λ l. get_or l e 0) rooms, ranges.capacity e h); at = c.small; count = n; busy = c.busy };
       whole =
           record {
-            rooms = long;
+            rooms = ap length rooms ∙ long;
             words = c.long;
             counts = counts;
             lasts = ap length zeros;
@@ -69,17 +70,17 @@ start_running d ranges small long busy at count last rate c n counts zeros q =
           let r = subst T (on_link (problem_of d) e t h) o in
           let m = eqb→eq (has t d.sessions) 1 (and_split (eqb (has t d.sessions) 1) (crosses_of d.path e t) r).0 in
           absurd (omega (arith, m, (at_start e h t l).0 o, ap (has t) z, has_zero t));
-      room = λ e h p. omega (arith, load_zero (problem_of d) (λ s. get_or rate s 0) none e);
-      kept = λ e h. (1, omega arith, rw (load_zero (problem_of d) (λ s. get_or rate s 0) none e, cap_link (problem_of d) e h) (omega arith));
+      room = λ e h p. omega (arith, ap (λ l. get_or l e 0) rooms, load_zero (problem_of d) (λ s. get_or rate s 0) none e);
+      kept = λ e h. (1, omega arith, rw (load_zero (problem_of d) (λ s. get_or rate s 0) none e, cap_link (problem_of d) e h) (omega (arith, ap (λ l. get_or l e 0) rooms)));
     }
   where
     none : (s : ℕ) → s < 32 → get_or rate s 0 ≡ 0
     none s h = ap (λ l. get_or l s 0) q ∙ get_or-replicate 32 s 0 0 h
 
     at_start : (e : ℕ) → e < 64 → (s : ℕ) → s < 32
-        → (T ((net (problem_of d)).on e s) → has s (get_or at e 0) ≡ has s d.sessions) × (T (not ((net (problem_of d)).on e s)) → has s (get_or at e 0) ≡ 0)
+        → (T ((net (problem_of d)).on e s) → has s (get_or k.at e 0) ≡ has s d.sessions) × (T (not ((net (problem_of d)).on e s)) → has s (get_or k.at e 0) ≡ 0)
     at_start e h s l =
-        let r = at_first (crosses_of d.path e s) (has s d.sessions) (has s (get_or at e 0)) (has_lt s _) (c.word e h s l) in (
+        let r = at_first (crosses_of d.path e s) (has s d.sessions) (has s (get_or k.at e 0)) (has_lt s _) (c.word e h s l) in (
           λ t. r.0 (subst T (on_link (problem_of d) e s h) t),
           λ t. r.1 (subst (λ v. T (not v)) (on_link (problem_of d) e s h) t),
         )

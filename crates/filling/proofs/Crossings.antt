@@ -16,9 +16,10 @@ use Rattle.fairness.specs.Figure1.{any}
 use Rattle.fairness.specs.Sum.{part}
 use Rattle.fairness.proofs.Anys.{any_next}
 use Rattle.fairness.proofs.Parts.{part_zero}
-use Rattle.filling.specs.Crossings.{Crossing, Joins, Words, words_of}
+use Rattle.filling.specs.Crossings.{Beside, Crossing, Joins}
 use Rattle.filling.specs.Lines.{crosses_of}
 use Rattle.filling.specs.SmallestShare.{Busy}
+use Rattle.filling.specs.declared.Links.{Links}
 
 -- THE PATH OF ONE SESSION ---------------------------------------------------------------------------------------------
 
@@ -27,18 +28,19 @@ abbrev pub some_hop : List ℕ → ℕ → ℕ → ℕ → Bool
 some_hop path s h e = any h (λ i. eqb (get_or path (s * 8 + i) 0) e)
 
 -- nobody comes to a byte that is no link
-pub joins_skip : (e s : ℕ) (k : Words) → length k.at ≡ 64 → 64 ≤ e → Joins (eqb e) s k k
+pub joins_skip : (e s : ℕ) (k : Links) → length k.at ≡ 64 → 64 ≤ e → Joins (eqb e) s k k
 joins_skip e s k long h =
-    record { long = long; word = λ j l. rw (ne_eqb e j (λ q. omega arith)) refl; busy = λ b. b }
+    record { long = long; word = λ j l. rw (ne_eqb e j (λ q. omega arith)) refl; busy = λ b. b; beside = (refl, refl, refl) }
 
 -- session s comes to a byte that is a link
-pub joins_one : (e s : ℕ) (k : Words) (w busy : ℕ) → length k.at ≡ 64 → e < 64 → w ≡ put s (get_or k.at e 0) → busy ≡ put e k.busy
-    → Joins (eqb e) s k (words_of busy (set k.at e w))
+pub joins_one : (e s : ℕ) (k : Links) (w busy : ℕ) → length k.at ≡ 64 → e < 64 → w ≡ put s (get_or k.at e 0) → busy ≡ put e k.busy
+    → Joins (eqb e) s k (record k { busy = busy; at = set k.at e w })
 joins_one e s k w busy long low f g =
     record {
       long = length-set k.at e w ∙ long;
       word = λ j l. word j (ℕ_discrete e j);
       busy = λ o j l z. busy_at o j l z (ℕ_discrete e j);
+      beside = (refl, refl, refl);
     }
   where
     word : (j : ℕ) → Dec (e ≡ j) → get_or (set k.at e w) j 0 ≡ cond (eqb e j) (put s (get_or k.at j 0)) (get_or k.at j 0)
@@ -53,9 +55,12 @@ joins_one e s k w busy long low f g =
     busy_at o j l z (no n) =
         get_or-set_other k.at e j w 0 (λ x. n (sym x)) ∙ o j l (sym (has_put_other e j k.busy n) ∙ sym (ap (has j) g) ∙ z)
 
-pub joins_none : (path : List ℕ) (s : ℕ) (k : Words) → length k.at ≡ 64 → Joins (some_hop path s 0) s k k
+pub joins_none : (path : List ℕ) (s : ℕ) (k : Links) → length k.at ≡ 64 → Joins (some_hop path s 0) s k k
 unfolding any
-joins_none path s k long = record { long = long; word = λ e h. refl; busy = λ b. b }
+joins_none path s k long = record { long = long; word = λ e h. refl; busy = λ b. b; beside = (refl, refl, refl) }
+
+pub beside_then : (k m r : Links) → Beside k m → Beside m r → Beside k r
+beside_then k m r a b = (b.0 ∙ a.0, b.1 ∙ a.1, b.2 ∙ a.2)
 
 put_twice : (t u : Bool) (s w : ℕ) → cond t (put s (cond u (put s w) w)) (cond u (put s w) w) ≡ cond (t || u) (put s w) w
 put_twice true true s w = put_put s w
@@ -63,7 +68,7 @@ put_twice true false s w = refl
 put_twice false u s w = refl
 
 -- one byte of the path more
-pub joins_next : (path : List ℕ) (s h : ℕ) (k m r : Words) (e : ℕ) → e ≡ get_or path (s * 8 + h) 0 → Joins (some_hop path s h) s k m → Joins (eqb e) s m r
+pub joins_next : (path : List ℕ) (s h : ℕ) (k m r : Links) (e : ℕ) → e ≡ get_or path (s * 8 + h) 0 → Joins (some_hop path s h) s k m → Joins (eqb e) s m r
     → Joins (some_hop path s (h + 1)) s k r
 joins_next path s h k m r e q a b =
     record {
@@ -75,15 +80,16 @@ joins_next path s h k m r e q a b =
           ∙ ap (λ (v : Bool). cond v (put s (get_or k.at j 0)) (get_or k.at j 0))
           (ap (λ (y : ℕ). eqb y j || some_hop path s h j) q ∙ sym (any_next h (λ i. eqb (get_or path (s * 8 + i) 0) j)));
       busy = λ o. b.busy (a.busy o);
+      beside = beside_then k m r a.beside b.beside;
     }
 
-pub joins_all : (path : List ℕ) (s h : ℕ) (k r : Words) → h ≡ 8 → Joins (some_hop path s h) s k r → Joins (λ e. crosses_of path e s) s k r
+pub joins_all : (path : List ℕ) (s h : ℕ) (k r : Links) → h ≡ 8 → Joins (some_hop path s h) s k r → Joins (λ e. crosses_of path e s) s k r
 joins_all path s h k r q a = subst (λ (v : ℕ). Joins (some_hop path s v) s k r) q a
 
 -- ALL SESSIONS --------------------------------------------------------------------------------------------------------
 
 -- the sessions that are no longer in the set `left` have their places
-pub record Placed (path : List ℕ) (sessions left : ℕ) (now : Words) : Type 0 where
+pub record Placed (path : List ℕ) (sessions left : ℕ) (now : Links) : Type 0 where
   pub long : length now.at ≡ 64
   pub small : (e : ℕ) → e < 64 → get_or now.at e 0 < 4294967296
   pub word : (e : ℕ) → e < 64 → (s : ℕ) → s < 32 → has s (get_or now.at e 0) ≡ part (crosses_of path e s) (has s sessions - has s left)
@@ -101,7 +107,7 @@ new_small : (c : Bool) (t a : ℕ) → t < 32 → a < 4294967296 → cond c (put
 new_small true t a h k = omega (arith, put_lt 32 t a h (omega arith))
 new_small false t a h k = k
 
-pub placed_turn : (path : List ℕ) (sessions left t v : ℕ) (now r : Words) → t < 32 → has t left ≡ 1 → has t sessions ≡ 1 → v ≡ cut t left
+pub placed_turn : (path : List ℕ) (sessions left t v : ℕ) (now r : Links) → t < 32 → has t left ≡ 1 → has t sessions ≡ 1 → v ≡ cut t left
     → Joins (λ e. crosses_of path e t) t now r → Placed path sessions left now → Placed path sessions v r
 placed_turn path sessions left t v now r ht hl hs q w p =
     record {
@@ -126,7 +132,7 @@ placed_turn path sessions left t v now r ht hl hs q w p =
         new_other (crosses_of path e t) s t (get_or now.at e 0) n ∙ p.word e k s l
         ∙ ap (λ (y : ℕ). part (crosses_of path e s) (has s sessions - y)) (sym (has_cut_other t s left n) ∙ sym (ap (has s) q))
 
-pub placed_none : (path : List ℕ) (sessions : ℕ) (now : Words) → now.at ≡ replicate 64 0 → Placed path sessions sessions now
+pub placed_none : (path : List ℕ) (sessions : ℕ) (now : Links) → now.at ≡ replicate 64 0 → Placed path sessions sessions now
 placed_none path sessions now q =
     record {
       long = ap length q;
@@ -140,7 +146,7 @@ placed_none path sessions now q =
     zero_at : (e : ℕ) → e < 64 → get_or now.at e 0 ≡ 0
     zero_at e k = ap (λ l. get_or l e 0) q ∙ get_or-replicate 64 e 0 0 k
 
-pub placed_all : (path : List ℕ) (sessions left : ℕ) (now : Words) → left ≡ 0 → Placed path sessions left now → Crossing path sessions now
+pub placed_all : (path : List ℕ) (sessions left : ℕ) (now : Links) → left ≡ 0 → Placed path sessions left now → Crossing path sessions now
 placed_all path sessions left now q p =
     record {
       long = p.long;

@@ -19,7 +19,7 @@ use Rattle.fairness.proofs.Anys.{any_at, any_next}
 use Rattle.filling.specs.Lines.{crosses_of}
 use Rattle.filling.specs.OneRound.{Enough, Leavable, Leaves, Remembers, Whole, Without}
 use Rattle.filling.specs.SmallestShare.{Busy}
-use Rattle.filling.specs.State.{Links}
+use Rattle.filling.specs.declared.Links.{Links}
 use Rattle.filling.proofs.Crossings.{some_hop}
 use Rattle.filling.proofs.LeavingALink.{cut_none, leaves_still}
 use Rattle.filling.proofs.Remembering.{remembers_more, remembers_none, remembers_then}

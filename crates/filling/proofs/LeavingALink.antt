@@ -18,7 +18,7 @@ use Rattle.sessions.proofs.Counts.{ones_cut}
 use Rattle.sessions.proofs.Members.{has_cut_other, has_pos}
 use Rattle.filling.specs.OneRound.{Leaves, Remembered, Whole}
 use Rattle.filling.specs.SmallestShare.{Busy}
-use Rattle.filling.specs.State.{Links, links_of}
+use Rattle.filling.specs.declared.Links.{Links}
 use Rattle.filling.proofs.Remembering.{remembers_none}
 
 -- who is no member cannot be taken out
@@ -61,7 +61,7 @@ module _ (e s share : ℕ) (k : Links) (w x n busy : ℕ) (last : List ℕ) (who
     (low : e < 64) (s-low : s < 32) (there : has s (get_or k.at e 0) ≡ 1) (w-is : w ≡ cut s (get_or k.at e 0)) (x-is : x + share ≡ get_or k.room e 0)
     (n-is : n + 1 ≡ get_or k.count e 0) (ending : Ending e s k w busy last) where
   abbrev r : Links
-  r = links_of busy (set k.room e x) (set k.at e w) (set k.count e n) last
+  r = record { busy = busy; room = set k.room e x; at = set k.at e w; count = set k.count e n; last = last }
 
   at_here : get_or r.at e 0 ≡ w
   at_here = get_or-set_same k.at e w 0 (omega (arith, whole.words))

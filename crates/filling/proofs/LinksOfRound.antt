@@ -16,8 +16,9 @@ use Rattle.fairness.proofs.Sums.{sum_add, sum_eq}
 use Rattle.declarations.specs.declared.Declared.{Declared}
 use Rattle.filling.specs.OneRound.{Enough, Grown, LinksAfter, Running, Without}
 use Rattle.filling.specs.SmallestShare.{GivenAmong, SharesFit, limits_of, room_of, word_of}
-use Rattle.filling.specs.State.{Fill, Links, links_of}
+use Rattle.filling.specs.State.{Fill}
 use Rattle.filling.specs.declared.Given.{Given}
+use Rattle.filling.specs.declared.Links.{Links}
 use Rattle.filling.proofs.Chosen.{on_crosses}
 use Rattle.filling.proofs.OpenSessions.{member_link, ones_sum, word_link}
 use Rattle.filling.proofs.RoundOfFigure1.{room_enough}
@@ -43,7 +44,7 @@ module _ (d : Declared) (z : Fill) (run : Running d z) (l : Given)
     (best : GivenAmong (room_of z.links.room z.den (limits_of d.access d.maximum)) (word_of z.links z.opens) l) (m : List ℕ)
     (grown : Grown z.links.busy l.count z.links.room m) where
   abbrev k : Links
-  k = links_of z.links.busy m z.links.at z.links.count z.links.last
+  k = record z.links { room = m }
 
   -- a link with somebody open is busy
   grown_there : (e : ℕ) → e < 64 → 0 < get_or z.links.at e 0 → get_or m e 0 ≡ get_or z.links.room e 0 * l.count

@@ -9,7 +9,7 @@ use lib.ListN.{get_or}
 use Rattle.sessions.specs.Set.{has}
 use Rattle.sessions.proofs.Members.{has_lt}
 use Rattle.filling.specs.OneRound.{Remembered, Remembers}
-use Rattle.filling.specs.State.{Links}
+use Rattle.filling.specs.declared.Links.{Links}
 
 pub remembers_none : (These : ℕ → Type 0) (k : Links) → Remembers These k k
 remembers_none These k e h = inl (refl, λ q. q)

@@ -10,8 +10,9 @@ use Rattle.fairness.proofs.Denominators.{SmallDenominator}
 use Rattle.declarations.specs.declared.Declared.{Declared}
 use Rattle.filling.specs.Lines.{Ranges, SessionNumbers, crosses_of, problem_of}
 use Rattle.filling.specs.SmallestShare.{Busy, Counted, LinksFit, parts_limit}
-use Rattle.filling.specs.State.{Fill, Links}
+use Rattle.filling.specs.State.{Fill}
 use Rattle.filling.specs.declared.Given.{Given}
+use Rattle.filling.specs.declared.Links.{Links}
 
 -- the rooms of the busy links over a denominator that is so many times as large
 pub record Grown (busy by : ℕ) (room r : List ℕ) : Type 0 where

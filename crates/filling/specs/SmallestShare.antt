@@ -6,8 +6,8 @@ use Rattle.std.specs.Int.Bits.{bit_or}
 use Rattle.std.specs.Int.Count.{ones}
 use Rattle.sessions.specs.Set.{has}
 use Rattle.declarations.specs.Declaring.{own_limit_of}
-use Rattle.filling.specs.State.{Links}
 use Rattle.filling.specs.declared.Given.{Given}
+use Rattle.filling.specs.declared.Links.{Links}
 use Rattle.filling.specs.declared.Smallest.{Smallest}
 
 -- the share l with the links of two equal shares

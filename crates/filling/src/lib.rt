@@ -5,14 +5,26 @@
 
 ghost use Rattle.std.specs.Prelude.{◌≡◌, ℕ, ◌*◌, ◌≤◌, ◌<◌, eqb, get_or, length, replicate};
 ghost use Rattle.fractions.specs.Fraction.{max_rate};
-ghost use Rattle.filling.specs.Crossings.{Crossing, Joins, words_of};
+ghost use Rattle.filling.specs.Crossings.{Beside, Crossing, Joins};
 ghost use Rattle.filling.specs.Lines.{Filled, Ranges, crosses_of};
 ghost use Rattle.filling.specs.OneRound.{Enough, Grown, Leavable, Leaves, RatesAfter, RatesFit, Whole, Without, rate_after};
 ghost use Rattle.filling.specs.SmallestShare.{Busy, Counted, GivenFits, LeastLink, LeastOwn, SharesFit, SmallestFits, parts_limit, smaller_of};
-ghost use Rattle.filling.specs.State.{links_of};
 
 use declarations::Declared;
 use fractions::Part;
+use std::cmp::Ordering;
+
+// The links as the rounds leave them: those that have a session not yet fixed; and for each link what is left of it, the sessions there not yet fixed,
+// how many they are, and the one that was fixed last, where all are fixed.
+// Kept as arrays beside each other: `room` and `last` go into the answer whole, and a loop over one of them touches no other.
+#[derive(Clone, Copy)]
+struct Links {
+    pub busy: u64,
+    pub room: [u64; 64],
+    pub at: [u32; 64],
+    pub count: [u64; 64],
+    pub last: [u32; 64],
+}
 
 // The smallest share so far, room / (den * count), the links that have it, and the sessions whose own limit has it.
 #[derive(Clone, Copy)]
@@ -41,300 +53,195 @@ pub struct Fixed {
     pub last: [u32; 64],
 }
 
-// l, or the share of a link with so much left and so many sessions not yet fixed, where that is smaller; of two equal shares the links of both.
-fn smaller(l: Smallest, room: u64, count: u64, own: u32, link: u64) -> Smallest
-    requires { SmallestFits l × (room ≤ parts_limit) × (count ≤ 32) }
-    ensures { result ≡ smaller_of l room count own link }
-{
-    let least = l.room;
-    let most = l.count;
-    let owns = l.own;
-    let links = l.links;
-    if count == 0 {
-        return Smallest {
-            room: least,
-            count: most,
-            own: owns,
-            links: links,
-        };
+impl Smallest {
+    // This one, or the share of a link with so much left and so many sessions not yet fixed, where that is smaller; of two equal shares the links of
+    // both.
+    fn or_smaller(self, room: u64, count: u64, own: u32, link: u64) -> Smallest
+        requires { SmallestFits self × (room ≤ parts_limit) × (count ≤ 32) }
+        ensures { result ≡ smaller_of self room count own link }
+    {
+        if count == 0 {
+            return self;
+        }
+        let share = Part { num: room, den: 1 }.among(count);
+        let mine = share.num * self.count;
+        let best = self.room * share.den;
+        match mine.cmp(&best) {
+            Ordering::Less => Smallest {
+                room: share.num,
+                count: share.den,
+                own,
+                links: link,
+            },
+            Ordering::Equal => Smallest {
+                own: self.own | own,
+                links: self.links | link,
+                ..self
+            },
+            Ordering::Greater => self,
+        }
     }
-    let share = Part { num: room, den: 1 }.among(count);
-    let num = share.num;
-    let den = share.den;
-    let mine = num * most;
-    let best = least * den;
-    if mine < best {
-        return Smallest {
-            room: num,
-            count: den,
-            own: own,
-            links: link,
-        };
-    }
-    if mine == best {
-        return Smallest {
-            room: least,
-            count: most,
-            own: owns | own,
-            links: links | link,
-        };
-    }
-    Smallest {
-        room: least,
-        count: most,
-        own: owns,
-        links: links,
+
+    // This one, or the own limit of one of the sessions not yet fixed, where that is smaller. 01: "D acts as one more link that only this session
+    // crosses".
+    fn or_own(self, den: u64, opens: u32, d: &Declared) -> Smallest
+        requires { SmallestFits self × (den ≤ 118098) × ((s : ℕ) → s < 32 → get_or d.now.access s 0 ≤ max_rate) }
+        ensures { LeastOwn self den opens d.now.access d.now.maximum result }
+    {
+        let mut least = self;
+        for s in sessions::each(opens) {
+            let i = s as usize;
+            let limit = declarations::own_limit(d.access[i], d.maximum[i]);
+            least = least.or_smaller(den * limit, 1, sessions::only(s), 0);
+        }
+        least
     }
 }
 
-// 01: "In each round the smallest share is found": among the links. 1/0 is above every share.
-fn least_link(busy: u64, room: &[u64; 64], count: &[u64; 64]) -> Smallest
-    requires { SharesFit busy room.now count.now }
-    ensures { LeastLink room.now count.now result }
-{
-    let mut l = Smallest {
-        room: 1,
-        count: 0,
-        own: 0,
-        links: 0,
-    };
-    let mut left = busy;
-    while left != 0 {
-        let e = sessions::next_link(left);
+impl Links {
+    // Session s comes to the link of a path byte.
+    fn join(&mut self, e: u8, s: u32)
+        requires { (s < 32) × (length self.old.at ≡ 64) }
+        ensures { Joins (eqb e) s self.old self.new }
+    {
+        if 64 <= e {
+            return;
+        }
         let i = e as usize;
-        let link = sessions::only_link(e);
-        l = smaller(l, room[i], count[i], 0, link);
-        left = sessions::cut_link(left, e);
+        self.at[i] = sessions::put(self.at[i], s);
+        self.busy = sessions::put(self.busy, e as u32);
     }
-    l
-}
 
-// The same with the own limits. 01: "D acts as one more link that only this session crosses".
-fn least_own<'a>(
-    l: Smallest,
-    den: u64,
-    opens: u32,
-    access: &'a [u64; 32],
-    maximum: &'a [u64; 32],
-) -> Smallest
-    requires { SmallestFits l × (den ≤ 118098) × ((s : ℕ) → s < 32 → get_or access.now s 0 ≤ max_rate) }
-    ensures { LeastOwn l den opens access.now maximum.now result }
-{
-    let mut now = l;
-    let mut left = opens;
-    while left != 0 {
-        let s = sessions::next(left);
-        let i = s as usize;
-        let limit = declarations::own_limit(access[i], maximum[i]);
-        let own = sessions::only(s);
-        now = smaller(now, den * limit, 1, own, 0);
-        left = sessions::cut(left, s);
+    // Session s comes to all links of its path.
+    fn join_path(&mut self, path: &[u8; 256], s: u32)
+        requires { (s < 32) × (length self.old.at ≡ 64) }
+        ensures { Joins (λ e. crosses_of path.now e s) s self.old self.new }
+    {
+        let from = s as usize * 8;
+        for e in &path[from..from + 8] {
+            self.join(*e, s);
+        }
     }
-    now
-}
 
-// What is left of the busy links, over a denominator that is so many times as large.
-fn grow(room: &mut [u64; 64], busy: u64, by: u64)
-    requires { (by ≤ 32) × (length room.old ≡ 64) × ((e : ℕ) → e < 64 → get_or room.old e 0 ≤ parts_limit) }
-    ensures { Grown busy by room.old room.new }
-{
-    if by == 1 {
-        return;
+    // All sessions come to the links of their paths, which had nobody.
+    fn join_all(&mut self, path: &[u8; 256], sessions: u32)
+        requires { (self.old.busy ≡ 0) × (self.old.at ≡ replicate 64 0) }
+        ensures { Crossing path.now sessions self.new × Beside self.old self.new }
+    {
+        for s in sessions::each(sessions) {
+            self.join_path(path, s);
+        }
     }
-    let mut left = busy;
-    while left != 0 {
-        let e = sessions::next_link(left);
+
+    // 01: "how many there are is the count of its ones".
+    fn count_all(&mut self)
+        requires { Busy self.old.busy self.old.at × (self.old.count ≡ replicate 64 0)
+            × ((e : ℕ) → e < 64 → get_or self.old.at e 0 < 4294967296) }
+        ensures { Counted self.old.at self.new.count × (length self.new.count ≡ 64)
+            × (self.new ≡ record self.old { count = self.new.count }) }
+    {
+        for e in sessions::each(self.busy) {
+            let i = e as usize;
+            self.count[i] = sessions::size(self.at[i]) as u64;
+        }
+    }
+
+    // 01: "In each round the smallest share is found": among the links. 1/0 is above every share.
+    fn least(&self) -> Smallest
+        requires { SharesFit self.now.busy self.now.room self.now.count }
+        ensures { LeastLink self.now.room self.now.count result }
+    {
+        let mut least = Smallest {
+            room: 1,
+            count: 0,
+            own: 0,
+            links: 0,
+        };
+        for e in sessions::each(self.busy) {
+            let i = e as usize;
+            least = least.or_smaller(self.room[i], self.count[i], 0, sessions::only(e));
+        }
+        least
+    }
+
+    // What is left of the busy links, over a denominator that is so many times as large.
+    fn grow(&mut self, by: u64)
+        requires { (by ≤ 32) × (length self.old.room ≡ 64) × ((e : ℕ) → e < 64 → get_or self.old.room e 0 ≤ parts_limit) }
+        ensures { Grown self.old.busy by self.old.room self.new.room × (self.new ≡ record self.old { room = self.new.room }) }
+    {
+        if by == 1 {
+            return;
+        }
+        for e in sessions::each(self.busy) {
+            self.room[e as usize] *= by;
+        }
+    }
+
+    // Session s leaves the link of a path byte, where it is not yet fixed: the share is taken from the link, which remembers s if nobody is left.
+    fn leave(&mut self, e: u8, s: u32, share: u64)
+        requires { (s < 32) × Whole self.old × Leavable (eqb e) s share self.old }
+        ensures { Leaves (eqb e) s share self.old self.new }
+    {
+        if 64 <= e {
+            return;
+        }
         let i = e as usize;
-        let x = room[i];
-        room[i] = x * by;
-        left = sessions::cut_link(left, e);
+        if !sessions::has(self.at[i], s) {
+            return;
+        }
+        let others = sessions::cut(self.at[i], s);
+        self.at[i] = others;
+        self.room[i] -= share;
+        self.count[i] -= 1;
+        if others == 0 {
+            self.last[i] = s;
+            self.busy = sessions::cut(self.busy, e as u32);
+        }
+    }
+
+    // Session s leaves all links of its path.
+    fn leave_path(&mut self, path: &[u8; 256], s: u32, share: u64)
+        requires { (s < 32) × Whole self.old × Leavable (λ e. crosses_of path.now e s) s share self.old }
+        ensures { Leaves (λ e. crosses_of path.now e s) s share self.old self.new }
+    {
+        let from = s as usize * 8;
+        for e in &path[from..from + 8] {
+            self.leave(*e, s, share);
+        }
+    }
+
+    // The chosen sessions leave all links of their paths.
+    fn leave_all(&mut self, path: &[u8; 256], chosen: u32, share: u64)
+        requires { Enough share self.old }
+        ensures { Without path.now chosen share self.old self.new }
+    {
+        for s in sessions::each(chosen) {
+            self.leave_path(path, s, share);
+        }
     }
 }
 
-// Session s leaves the link of a path byte, where it is not yet fixed: the share is taken from the link, which remembers s if nobody is left. The busy
-// links after that.
-fn leave(
-    e: u8,
-    s: u32,
-    share: u64,
-    busy: u64,
-    room: &mut [u64; 64],
-    at: &mut [u32; 64],
-    count: &mut [u64; 64],
-    last: &mut [u32; 64],
-) -> u64
-    requires { (s < 32) × Whole (links_of busy room.old at.old count.old last.old)
-        × Leavable (eqb e) s share (links_of busy room.old at.old count.old last.old) }
-    ensures { Leaves (eqb e) s share (links_of busy room.old at.old count.old last.old)
-        (links_of result room.new at.new count.new last.new) }
-{
-    if 64 <= e {
-        return busy;
+impl Given {
+    // A rate after a round.
+    fn rate_after(self, rate: u64, s: u32) -> u64
+        requires { GivenFits self × (rate ≤ parts_limit) × (s < 32) }
+        ensures { result ≡ rate_after self rate s }
+    {
+        if sessions::has(self.chosen, s) {
+            return self.room;
+        }
+        rate * self.count
     }
-    let i = e as usize;
-    let w = at[i];
-    if !sessions::has(w, s) {
-        return busy;
-    }
-    let others = sessions::cut(w, s);
-    let x = room[i];
-    let n = count[i];
-    at[i] = others;
-    room[i] = x - share;
-    count[i] = n - 1;
-    if others == 0 {
-        last[i] = s;
-        return sessions::cut_link(busy, e as u32);
-    }
-    busy
-}
 
-// Session s leaves all links of its path.
-fn leave_path(
-    path: &[u8; 256],
-    s: u32,
-    share: u64,
-    busy: u64,
-    room: &mut [u64; 64],
-    at: &mut [u32; 64],
-    count: &mut [u64; 64],
-    last: &mut [u32; 64],
-) -> u64
-    requires { (s < 32) × Whole (links_of busy room.old at.old count.old last.old)
-        × Leavable (λ e. crosses_of path.now e s) s share (links_of busy room.old at.old count.old last.old) }
-    ensures { Leaves (λ e. crosses_of path.now e s) s share
-        (links_of busy room.old at.old count.old last.old)
-        (links_of result room.new at.new count.new last.new) }
-{
-    let mut next = busy;
-    let from = (s as usize) * 8;
-    for h in 0..8usize {
-        next = leave(path[from + h], s, share, next, room, at, count, last);
-    }
-    next
-}
-
-// The chosen sessions leave all links of their paths.
-fn leave_all(
-    path: &[u8; 256],
-    chosen: u32,
-    share: u64,
-    busy: u64,
-    room: &mut [u64; 64],
-    at: &mut [u32; 64],
-    count: &mut [u64; 64],
-    last: &mut [u32; 64],
-) -> u64
-    requires { Enough share (links_of busy room.old at.old count.old last.old) }
-    ensures { Without path.now chosen share
-        (links_of busy room.old at.old count.old last.old)
-        (links_of result room.new at.new count.new last.new) }
-{
-    let mut next = busy;
-    let mut left = chosen;
-    while left != 0 {
-        let s = sessions::next(left);
-        next = leave_path(path, s, share, next, room, at, count, last);
-        left = sessions::cut(left, s);
-    }
-    next
-}
-
-// A rate after a round.
-fn rate_after(l: Given, rate: u64, s: u32) -> u64
-    requires { GivenFits l × (rate ≤ parts_limit) × (s < 32) }
-    ensures { result ≡ rate_after l rate s }
-{
-    let least = l.room;
-    let count = l.count;
-    let chosen = l.chosen;
-    if sessions::has(chosen, s) {
-        return least;
-    }
-    rate * count
-}
-
-// The rates of the fixed sessions after a round, over the denominator den * count.
-fn rates_after(rate: &mut [u64; 32], these: u32, l: Given)
-    requires { GivenFits l × RatesFit rate.old these l }
-    ensures { RatesAfter rate.old l rate.new }
-{
-    let mut left = these;
-    while left != 0 {
-        let s = sessions::next(left);
-        let i = s as usize;
-        let x = rate[i];
-        rate[i] = rate_after(l, x, s);
-        left = sessions::cut(left, s);
-    }
-}
-
-fn zeros() -> [u32; 64]
-    ensures { result ≡ replicate 64 0 }
-{
-    [0u32; 64]
-}
-
-fn no_counts() -> [u64; 64]
-    ensures { result ≡ replicate 64 0 }
-{
-    [0; 64]
-}
-
-// Session s comes to the link of a path byte. The busy links after that.
-fn join(e: u8, s: u32, busy: u64, at: &mut [u32; 64]) -> u64
-    requires { (s < 32) × (length at.old ≡ 64) }
-    ensures { Joins (eqb e) s (words_of busy at.old) (words_of result at.new) }
-{
-    if 64 <= e {
-        return busy;
-    }
-    let i = e as usize;
-    let w = at[i];
-    at[i] = sessions::put(w, s);
-    sessions::put_link(busy, e as u32)
-}
-
-// Session s comes to all links of its path.
-fn join_path(path: &[u8; 256], s: u32, busy: u64, at: &mut [u32; 64]) -> u64
-    requires { (s < 32) × (length at.old ≡ 64) }
-    ensures { Joins (λ e. crosses_of path.now e s) s (words_of busy at.old) (words_of result at.new) }
-{
-    let mut next = busy;
-    let from = (s as usize) * 8;
-    for h in 0..8usize {
-        next = join(path[from + h], s, next, at);
-    }
-    next
-}
-
-// All sessions come to the links of their paths: the words of the links, which had nobody, and the busy links.
-fn crossing(path: &[u8; 256], sessions: u32, at: &mut [u32; 64]) -> u64
-    requires { at.old ≡ replicate 64 0 }
-    ensures { Crossing path.now sessions (words_of result at.new) }
-{
-    let mut busy: u64 = 0;
-    let mut left = sessions;
-    while left != 0 {
-        let s = sessions::next(left);
-        busy = join_path(path, s, busy, at);
-        left = sessions::cut(left, s);
-    }
-    busy
-}
-
-// 01: "how many there are is the count of its ones".
-fn counted(busy: u64, at: &[u32; 64], count: &mut [u64; 64])
-    requires { Busy busy at.now × (count.old ≡ replicate 64 0) × ((e : ℕ) → e < 64 → get_or at.now e 0 < 4294967296) }
-    ensures { Counted at.now count.new × (length count.new ≡ 64) }
-{
-    let mut left = busy;
-    while left != 0 {
-        let e = sessions::next_link(left);
-        let i = e as usize;
-        let n = sessions::size(at[i]);
-        count[i] = n as u64;
-        left = sessions::cut_link(left, e);
+    // The rates of the fixed sessions after a round, over the denominator den * count.
+    fn rates_after(self, rate: &mut [u64; 32], these: u32)
+        requires { GivenFits self × RatesFit rate.old these self }
+        ensures { RatesAfter rate.old self rate.new }
+    {
+        for s in sessions::each(these) {
+            let i = s as usize;
+            rate[i] = self.rate_after(rate[i], s);
+        }
     }
 }
 
@@ -345,45 +252,36 @@ pub fn filled(d: Declared) -> Fixed
     requires { Ranges d }
     ensures { Filled d result }
 {
-    let sessions = d.sessions;
-    let mut room = d.capacity;
-    let mut at = zeros();
-    let mut count = no_counts();
-    let mut last = zeros();
-    let mut rate = declarations::no_rates();
-    let mut busy = crossing(&d.path, sessions, &mut at);
-    counted(busy, &at, &mut count);
+    let mut links = Links {
+        busy: 0,
+        room: d.capacity,
+        at: [0; 64],
+        count: [0; 64],
+        last: [0; 64],
+    };
+    links.join_all(&d.path, d.sessions);
+    links.count_all();
+    let mut rate = [0; 32];
     let mut den: u64 = 1;
-    let mut opens = sessions;
+    let mut opens = d.sessions;
     while opens != 0 {
-        let t = least_own(
-            least_link(busy, &room, &count),
-            den,
-            opens,
-            &d.access,
-            &d.maximum,
-        );
-        let share = t.room;
-        let by = t.count;
-        let own = t.own;
-        let chosen = own | search::all_at(&d.path, opens, t.links);
-        grow(&mut room, busy, by);
-        busy = leave_all(
-            &d.path, chosen, share, busy, &mut room, &mut at, &mut count, &mut last,
-        );
-        opens = opens & !chosen;
-        let l = Given {
-            room: share,
-            count: by,
-            chosen: chosen,
+        let least = links.least().or_own(den, opens, &d);
+        let chosen = least.own | search::all_at(&d.path, opens, least.links);
+        let given = Given {
+            room: least.room,
+            count: least.count,
+            chosen,
         };
-        rates_after(&mut rate, sessions & !opens, l);
-        den = den * by;
+        links.grow(given.count);
+        links.leave_all(&d.path, chosen, given.room);
+        opens = opens & !chosen;
+        given.rates_after(&mut rate, d.sessions & !opens);
+        den = den * given.count;
     }
     Fixed {
-        den: den,
-        rate: rate,
-        room: room,
-        last: last,
+        den,
+        rate,
+        room: links.room,
+        last: links.last,
     }
 }

@@ -1,5 +1,6 @@
 -- Laws of fractions. A crate above cites them as Rattle.fractions.proofs.NAME.
 pub mod Cases
+pub mod Arrays
 pub mod Divisors
 pub mod Twos
 pub mod Stripping

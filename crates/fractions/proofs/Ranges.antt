@@ -1,16 +1,16 @@
 -- Rates within bounds: their products fit, the test of a rate is exact, and a sum is within the sum of the bounds.
 -- Assumes nothing.
-use mathlib.Core.Path.{◌≡◌, sym, ap, ap₂, subst}
-use mathlib.Core.Bool.{true}
+use mathlib.Core.Path.{◌≡◌, refl, sym, ap, ap₂, subst}
+use mathlib.Core.Bool.{Bool, true, false, ◌&&◌}
 use Prim.Native.Nat.{ℕ, ◌+◌, ◌*◌, ◌^◌, ◌≤◌, ◌<◌}
 use native.Mathlib.Nat.{mul-le-mul, mul-le-mul_right, mul-pos, le_of_mul-le-mul_right}
 use native.Mathlib.Omega.{arith}
 use borrow.Author.Tests.{ltb-true, leb-true, leb-false, eqb-true, eq-eqb, lt-ltb, le-leb}
-use lib.Dec.{lit≤}
-use Rattle.fractions.specs.Divisor.{IsGcd}
-use Rattle.fractions.specs.Fraction.{Within, Sized, limit, max_den, max_rate, Lowest, frac, zero_of, whole_of, fine_of, add_of, plus_of, same_of, is_rate_of, sized_of, kept_of}
+use lib.Dec.{eqb, leb, lit≤, ltb}
+use Rattle.fractions.specs.Divisor.{IsGcd, gcd_of}
+use Rattle.fractions.specs.Fraction.{Within, Sized, limit, max_den, max_rate, Lowest, frac, zero_of, whole_of, fine_of, add_of, plus_of, too_fine, same_of, is_rate_of, sized_of, kept_of}
+use Rattle.std.specs.Prelude.{Ok, Err}
 use Rattle.fractions.specs.declared.Rate.{Rate}
-use Rattle.fractions.specs.declared.Sum.TheVariants as sum
 use Rattle.fractions.proofs.Cases.{and_both, cases, chose_first, chose_second}
 use Rattle.fractions.proofs.Divisors.{gcd_is, gcd_unique}
 use Rattle.fractions.proofs.Additions.{add_lowest}
@@ -46,6 +46,16 @@ pub kept_same : {a : Rate} → Sized max_rate a → kept_of a.num a.den ≡ a
 unfolding kept_of sized_of
 kept_same w = simp (lt-ltb _ _ w.pos, le-leb _ _ w.den, le-leb _ _ w.num)
 
+-- the test of a rate: that of its size, then that of its lowest terms
+pub is_rate_by_size : (a : Rate) → is_rate_of a ≡ (sized_of a.num a.den && eqb (gcd_of a.num a.den) 1)
+unfolding is_rate_of sized_of
+is_rate_by_size a = and_nested (ltb 0 a.den) (leb a.den max_den) (leb a.num (max_rate * a.den)) _
+  where
+    and_nested : (p q r s : Bool) → (p && (q && (r && s))) ≡ ((p && (q && r)) && s)
+    and_nested true true r s = refl
+    and_nested true false r s = refl
+    and_nested false q r s = refl
+
 pub within_lowest : {m : ℕ} {a : Rate} → Within m a → Lowest a
 within_lowest w = w.lowest
 
@@ -58,7 +68,7 @@ whole_within {m} {n} h =
     record { lowest = whole_lowest n; den = lit≤ tt; num = omega arith }
 
 -- a sum that comes back as a rate is the sum, and its denominator is within the limit
-pub plus_rate : (a b : Rate) {s : Rate} → plus_of a b ≡ sum.Rate s → (add_of a b ≡ s) × (s.den ≤ max_den)
+pub plus_rate : (a b : Rate) {s : Rate} → plus_of a b ≡ Ok s → (add_of a b ≡ s) × (s.den ≤ max_den)
 unfolding plus_of
 plus_rate a b {s} e =
     let p = chose_first (fine_of (add_of a b)) e (λ q. let z : ◌≡◌ {A = ℕ} 0 1 = cc in omega arith) in
@@ -66,13 +76,13 @@ plus_rate a b {s} e =
     (q, subst (λ (r : Rate). r.den ≤ max_den) q (leb-true _ _ p.0))
 
 -- and one that does not is too fine
-pub plus_too_fine : (a b : Rate) → plus_of a b ≡ sum.TooFine → max_den < (add_of a b).den
+pub plus_too_fine : (a b : Rate) → plus_of a b ≡ Err too_fine → max_den < (add_of a b).den
 unfolding plus_of
 plus_too_fine a b e =
-    leb-false _ _ (chose_second sum.TooFine (fine_of (add_of a b)) e (λ q. let z : ◌≡◌ {A = ℕ} 0 1 = cc in omega arith))
+    leb-false _ _ (chose_second (Err too_fine) (fine_of (add_of a b)) e (λ q. let z : ◌≡◌ {A = ℕ} 0 1 = cc in omega arith))
 
 -- a sum of values is no greater than the sum of their bounds
-pub plus_sized : {m n : ℕ} {a b s : Rate} → Sized m a → Sized n b → plus_of a b ≡ sum.Rate s → Sized (m + n) s
+pub plus_sized : {m n : ℕ} {a b s : Rate} → Sized m a → Sized n b → plus_of a b ≡ Ok s → Sized (m + n) s
 unfolding add_of
 plus_sized {m} {n} {a} {b} {s} wa wb e =
     let f = plus_rate a b e in
@@ -92,7 +102,7 @@ plus_sized {m} {n} {a} {b} {s} wa wb e =
           hD;
     })
 
-pub plus_within : {m n : ℕ} {a b s : Rate} → Within m a → Within n b → plus_of a b ≡ sum.Rate s → Within (m + n) s
+pub plus_within : {m n : ℕ} {a b s : Rate} → Within m a → Within n b → plus_of a b ≡ Ok s → Within (m + n) s
 plus_within {m} {n} {a} {b} {s} wa wb e =
     let z = plus_sized (within_sized wa) (within_sized wb) e in
     record {

@@ -5,9 +5,9 @@ use borrow.Author.Tests.{leb-true, leb-false}
 use Prim.Native.Nat.{ℕ, ◌+◌, ◌-◌, ◌*◌, ◌≤◌, ◌<◌, ◌∣◌}
 use native.Mathlib.Nat.{dvd_trans, le_of_mul-le-mul_right, mul-dvd-mul_right, mul-le-mul_left, mul-le-mul_right, mul-pos}
 use native.Mathlib.Omega.{arith}
-use Rattle.fractions.specs.Fraction.{Lowest, Within, max_den, frac, whole_of, fine_of, lowest_of, add_of, times_of, each_of, share_of}
+use Rattle.fractions.specs.Fraction.{Lowest, Within, max_den, frac, whole_of, fine_of, lowest_of, add_of, times_of, each_of, share_of, too_fine}
+use Rattle.std.specs.Prelude.{Ok, Err}
 use Rattle.fractions.specs.declared.Rate.{Rate}
-use Rattle.fractions.specs.declared.Share.TheVariants as share
 use Rattle.fractions.proofs.Cases.{chose_first, chose_second}
 use Rattle.fractions.proofs.Order.{same_trans}
 use Rattle.fractions.proofs.LowestTerms.{lowest_den, lowest_same, lowest_pos, lowest_lowest, lowest_cong, lowest_id, den_divides, whole_lowest}
@@ -62,7 +62,7 @@ share_den_most c t k ht hk =
     lowest_den N (t.den * k) (mul-pos ht hk) (share_lowest c t k ht hk) (lowest_same N (t.den * k))
 
 -- a share that comes back as a rate is the share, no more than the capacity
-pub share_within : (c : ℕ) (t : Rate) (k : ℕ) {s : Rate} → 0 < t.den → 0 < k → share_of c t k ≡ share.Rate s
+pub share_within : (c : ℕ) (t : Rate) (k : ℕ) {s : Rate} → 0 < t.den → 0 < k → share_of c t k ≡ Ok s
     → (each_of c t k ≡ s) × Within c s
 unfolding share_of each_of
 share_within c t k {s} ht hk e =
@@ -75,10 +75,10 @@ share_within c t k {s} ht hk e =
     (q, subst (Within c) q (record { lowest = share_lowest c t k ht hk; den = leb-true _ _ p.0; num = le_of_mul-le-mul_right {k = t.den * k} le hD }))
 
 -- and one that does not is too fine
-pub share_too_fine : (c : ℕ) (t : Rate) (k : ℕ) → share_of c t k ≡ share.TooFine → max_den < (each_of c t k).den
+pub share_too_fine : (c : ℕ) (t : Rate) (k : ℕ) → share_of c t k ≡ Err too_fine → max_den < (each_of c t k).den
 unfolding share_of
 share_too_fine c t k e =
-    leb-false _ _ (chose_second share.TooFine (fine_of (each_of c t k)) e (λ q. let z : ◌≡◌ {A = ℕ} 0 1 = cc in omega arith))
+    leb-false _ _ (chose_second (Err too_fine) (fine_of (each_of c t k)) e (λ q. let z : ◌≡◌ {A = ℕ} 0 1 = cc in omega arith))
 
 -- over a denominator that is not reduced
 pub share_over : (c l N k : ℕ) → 0 < N → 0 < k → l ≤ N * c → each_of c (lowest_of l N) k ≡ lowest_of (N * c - l) (N * k)

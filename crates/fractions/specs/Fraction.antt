@@ -1,14 +1,11 @@
 -- Rates: when a fraction is one, how two compare, and what sums and shares come to, also in 01's number and values. Follows 01, "Fractions" and "The direct calculation".
 -- Answers are in lowest terms, so two answers of one value are equal; `Same`, `Le` and `Lt` speak of the values.
 -- Assumes nothing: definitions.
-use Rattle.std.specs.Prelude.{◌≡◌, Bool, ◌&&◌, cond, ℕ, ◌+◌, ◌-◌, ◌*◌, ◌/◌, ◌≤◌, ◌<◌, leb, ltb, eqb}
+use Rattle.std.specs.Prelude.{◌≡◌, Bool, ◌&&◌, cond, codes, decimal, List, ◌++◌, Result, Ok, Err, ℕ, ◌+◌, ◌-◌, ◌*◌, ◌/◌, ◌≤◌, ◌<◌, leb, ltb, eqb}
 use Rattle.fractions.specs.Divisor.{IsGcd, gcd_of}
 use Rattle.fractions.specs.declared.Rate.{Rate}
 use Rattle.fractions.specs.declared.Part.{Part}
-use Rattle.fractions.specs.declared.Sum.{Sum}
-use Rattle.fractions.specs.declared.Sum.TheVariants as sum
-use Rattle.fractions.specs.declared.Share.{Share}
-use Rattle.fractions.specs.declared.Share.TheVariants as share
+use Rattle.fractions.specs.declared.TooFine.{TooFine}
 
 -- 01, "Fractions": denominators are limited to 1,048,576
 abbrev pub max_den : ℕ
@@ -21,6 +18,10 @@ max_rate = 1000000
 -- n / d as it stands
 abbrev pub frac : ℕ → ℕ → Rate
 frac n d = record { num = n; den = d }
+
+-- 01, "Examples": how the programs print it
+abbrev pub rate_text : Rate → List ℕ
+rate_text x = decimal x.num ++ (codes "/" ++ decimal x.den)
 
 -- 01: zero is 0/1
 abbrev pub zero_of : Rate
@@ -98,13 +99,21 @@ lowest_of n d = record { num = n / gcd_of n d; den = d / gcd_of n d }
 abbrev pub fine_of : Rate → Bool
 fine_of a = leb a.den max_den
 
+-- why a sum or a share is no rate (01, refusal 12)
+abbrev pub too_fine : TooFine
+too_fine = record {}
+
+-- a, or that its denominator is over the limit
+abbrev pub within_limit : Rate → Result Rate TooFine
+within_limit a = cond (fine_of a) (Ok a) (Err too_fine)
+
 -- a + b in lowest terms
 unfoldable pub add_of : Rate → Rate → Rate
 add_of a b = lowest_of (a.num * b.den + b.num * a.den) (a.den * b.den)
 
 -- a + b, or that its denominator is over the limit (01, refusal 12)
-unfoldable pub plus_of : Rate → Rate → Sum
-plus_of a b = cond (fine_of (add_of a b)) (sum.Rate (add_of a b)) sum.TooFine
+unfoldable pub plus_of : Rate → Rate → Result Rate TooFine
+plus_of a b = within_limit (add_of a b)
 
 -- k times a, in lowest terms
 unfoldable pub times_of : ℕ → Rate → Rate
@@ -123,8 +132,8 @@ unfoldable pub each_of : ℕ → Rate → ℕ → Rate
 each_of c t k = lowest_of (c * t.den - t.num) (t.den * k)
 
 -- a link's share, or that its denominator is over the limit
-unfoldable pub share_of : ℕ → Rate → ℕ → Share
-share_of c t k = cond (fine_of (each_of c t k)) (share.Rate (each_of c t k)) share.TooFine
+unfoldable pub share_of : ℕ → Rate → ℕ → Result Rate TooFine
+share_of c t k = within_limit (each_of c t k)
 
 -- 01'S NUMBER AND VALUES ----------------------------------------------------------------------------------------------
 
@@ -140,11 +149,7 @@ rate_said x = record { number = 0; num = x.num; den = x.den }
 abbrev pub no_rate : ℕ → RateSaid
 no_rate n = record { number = n; num = 0; den = 0 }
 
--- too fine is refusal 12
-abbrev pub sum_said : Sum → RateSaid
-sum_said (sum.Rate y) = rate_said y
-sum_said sum.TooFine = no_rate 12
-
-abbrev pub share_said : Share → RateSaid
-share_said (share.Rate y) = rate_said y
-share_said share.TooFine = no_rate 12
+-- of a sum or a share: too fine is refusal 12
+abbrev pub answer_said : Result Rate TooFine → RateSaid
+answer_said (Ok y) = rate_said y
+answer_said (Err _) = no_rate 12

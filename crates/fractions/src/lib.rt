@@ -1,11 +1,14 @@
 // Rates as exact fractions: a numerator and a denominator in lowest terms, compared by their cross products (01, "Fractions").
 #![tactic(auto)]
 
-ghost use Rattle.std.specs.Prelude.{◌≡◌, ℕ, ◌*◌, ◌≤◌, ◌<◌};
+ghost use Rattle.std.specs.Prelude.{◌≡◌, Some, ℕ, ◌*◌, ◌≤◌, ◌<◌};
 ghost use Rattle.fractions.specs.Divisor.{IsGcd, OddPart};
-ghost use Rattle.fractions.specs.Fraction.{Sized, limit, max_den, max_rate, is_rate_of, kept_of, le_of, lt_of, same_of, zero_of, whole_of, lowest_of, fine_of, plus_of, left_of, among_of, share_of, sum_said, share_said};
+ghost use Rattle.fractions.specs.Fraction.{Sized, limit, max_den, max_rate, is_rate_of, kept_of, sized_of, le_of, lt_of, same_of, whole_of, lowest_of, fine_of, plus_of, left_of, among_of, rate_text, share_of, within_limit, answer_said};
 
-// A rate in kbit/s.
+use std::fmt;
+
+// A rate in kbit/s. That it is one (`Sized`, or `Within`) is a clause and no invariant of the type: a record or a caller hands in any two numbers, which
+// `is_rate` tests.
 #[derive(Clone, Copy)]
 pub struct Rate {
     pub num: u64,
@@ -19,19 +22,9 @@ pub struct Part {
     pub den: u64,
 }
 
-// A sum of rates, or that its denominator is over the limit.
-#[derive(Clone, Copy)]
-pub enum Sum {
-    Rate(Rate),
-    TooFine,
-}
-
-// A link's share, or that its denominator is over the limit.
-#[derive(Clone, Copy)]
-pub enum Share {
-    Rate(Rate),
-    TooFine,
-}
+// Why a sum or a share is no rate: its denominator is over the limit (01, refusal 12).
+#[derive(Clone, Copy, Debug, PartialEq, Eq)]
+pub struct TooFine;
 
 // What is left of x without its factors of two.
 fn odd_part(x: u64) -> u64
@@ -81,12 +74,6 @@ impl Rate {
     // The largest value.
     pub const MAX: u64 = 1_000_000;
 
-    pub fn zero() -> Rate
-        ensures { result ≡ zero_of }
-    {
-        Rate::ZERO
-    }
-
     // A whole number of kbit/s.
     pub fn whole(n: u64) -> Rate
         ensures { result ≡ whole_of n }
@@ -106,53 +93,43 @@ impl Rate {
         }
     }
 
+    // Whether the denominator is within its limit and above zero, and the value within its own. Lowest terms are not looked at.
+    fn is_sized(self) -> bool
+        ensures { result ≡ sized_of self.num self.den }
+    {
+        0 < self.den && self.den <= Rate::MAX_DEN && self.num <= Rate::MAX * self.den
+    }
+
     // Whether a rate that was handed in is one: within its range and in lowest terms.
     pub fn is_rate(self) -> bool
         ensures { result ≡ is_rate_of self }
     {
-        let n = self.num;
-        let d = self.den;
-        if d == 0 {
-            return false;
-        }
-        if Rate::MAX_DEN < d {
-            return false;
-        }
-        let most = Rate::MAX * d;
-        if most < n {
-            return false;
-        }
-        let g = gcd(n, d);
-        g == 1
+        self.is_sized() && gcd(self.num, self.den) == 1
     }
 
     // The rate that is kept as two numbers, or 0/1 where they are none within the limits. Lowest terms are not looked at.
     pub fn kept(n: u64, d: u64) -> Rate
         ensures { result ≡ kept_of n d }
     {
-        if d == 0 {
-            return Rate::ZERO;
-        }
-        if Rate::MAX_DEN < d {
-            return Rate::ZERO;
-        }
-        if Rate::MAX * d < n {
-            return Rate::ZERO;
-        }
-        Rate { num: n, den: d }
+        let x = Rate { num: n, den: d };
+        if x.is_sized() { x } else { Rate::ZERO }
     }
 
-    // No greater than b.
+    // The numerators of both over one denominator, the product of their own: they compare as the rates do.
+    fn cross(self, b: Rate) -> (u64, u64)
+        requires { Sized limit self × Sized limit b }
+        ensures left { result.0 ≡ self.num * b.den }
+        ensures right { result.1 ≡ b.num * self.den }
+    {
+        (self.num * b.den, b.num * self.den)
+    }
+
+    // No greater than b. Not an impl of PartialOrd, nor `same` one of PartialEq: their laws are of every pair of numbers, and x/0 has none.
     pub fn le(self, b: Rate) -> bool
         requires { Sized limit self × Sized limit b }
         ensures { result ≡ le_of self b }
     {
-        let n = self.num;
-        let d = self.den;
-        let m = b.num;
-        let e = b.den;
-        let left = n * e;
-        let right = m * d;
+        let (left, right) = self.cross(b);
         left <= right
     }
 
@@ -161,12 +138,7 @@ impl Rate {
         requires { Sized limit self × Sized limit b }
         ensures { result ≡ lt_of self b }
     {
-        let n = self.num;
-        let d = self.den;
-        let m = b.num;
-        let e = b.den;
-        let left = n * e;
-        let right = m * d;
+        let (left, right) = self.cross(b);
         left < right
     }
 
@@ -175,12 +147,7 @@ impl Rate {
         requires { Sized limit self × Sized limit b }
         ensures { result ≡ same_of self b }
     {
-        let n = self.num;
-        let d = self.den;
-        let m = b.num;
-        let e = b.den;
-        let left = n * e;
-        let right = m * d;
+        let (left, right) = self.cross(b);
         left == right
     }
 
@@ -188,46 +155,49 @@ impl Rate {
     pub fn is_fine(self) -> bool
         ensures { result ≡ fine_of self }
     {
-        let d = self.den;
-        d <= Rate::MAX_DEN
+        self.den <= Rate::MAX_DEN
+    }
+
+    // The rate, if its denominator is within the limit.
+    fn within_limit(self) -> Result<Rate, TooFine>
+        ensures { result ≡ within_limit self }
+    {
+        if self.is_fine() {
+            Ok(self)
+        } else {
+            Err(TooFine)
+        }
     }
 
     // The sum with b.
-    pub fn plus(self, b: Rate) -> Sum
+    pub fn plus(self, b: Rate) -> Result<Rate, TooFine>
         requires { Sized limit self × Sized limit b }
         ensures exact { result ≡ plus_of self b }
-        ensures said { sum_said result ≡ sum_said (plus_of self b) }
+        ensures said { answer_said result ≡ answer_said (plus_of self b) }
     {
-        let n = self.num;
-        let d = self.den;
-        let m = b.num;
-        let e = b.den;
-        let left = n * e;
-        let right = m * d;
-        let below = d * e;
-        let sum = Rate::lowest(left + right, below);
-        if sum.is_fine() {
-            Sum::Rate(sum)
-        } else {
-            Sum::TooFine
-        }
+        let (left, right) = self.cross(b);
+        let sum = Rate::lowest(left + right, self.den * b.den);
+        sum.within_limit()
     }
 
     // A link's share: what is left of its capacity when what is taken is gone, for each of count sessions.
-    pub fn share(capacity: u64, taken: Rate, count: u64) -> Share
+    pub fn share(capacity: u64, taken: Rate, count: u64) -> Result<Rate, TooFine>
         requires { Sized max_rate taken × (capacity ≤ max_rate) × (taken.num ≤ capacity * taken.den) × (0 < count) × (count ≤ 32) }
         ensures exact { result ≡ share_of capacity taken count }
-        ensures said { share_said result ≡ share_said (share_of capacity taken count) }
+        ensures said { answer_said result ≡ answer_said (share_of capacity taken count) }
     {
         let each = Part::left(capacity, taken).among(count);
-        let n = each.num;
-        let d = each.den;
-        let share = Rate::lowest(n, d);
-        if share.is_fine() {
-            Share::Rate(share)
-        } else {
-            Share::TooFine
-        }
+        let share = Rate::lowest(each.num, each.den);
+        share.within_limit()
+    }
+}
+
+// num/den.
+impl fmt::Display for Rate {
+    ghost output = { λ x. Some (rate_text x) };
+
+    fn fmt<W: fmt::Write>(&self, f: &mut fmt::Formatter<W>) -> fmt::Result {
+        write!(f, "{}/{}", self.num, self.den)
     }
 }
 
@@ -237,12 +207,9 @@ impl Part {
         requires { (taken.num ≤ capacity * taken.den) × (taken.den ≤ max_den) × (capacity ≤ max_rate) }
         ensures { result ≡ left_of capacity taken }
     {
-        let n = taken.num;
-        let d = taken.den;
-        let all = capacity * d;
         Part {
-            num: all - n,
-            den: d,
+            num: capacity * taken.den - taken.num,
+            den: taken.den,
         }
     }
 
@@ -251,11 +218,9 @@ impl Part {
         requires { (self.den ≤ max_den) × (count ≤ 32) }
         ensures { result ≡ among_of self count }
     {
-        let n = self.num;
-        let d = self.den;
         Part {
-            num: n,
-            den: d * count,
+            num: self.num,
+            den: self.den * count,
         }
     }
 }

@@ -1,5 +1,6 @@
 -- Each clause of refusal 14's test, as a fact about each link, session and packet: from the test, and back to it.
 -- Assumes nothing.
+use Rattle.std.specs.Prelude.{Err}
 use mathlib.Core.Bool.{Bool, cond, false, not, true, ◌&&◌, ◌||◌}
 use mathlib.Core.List.{List}
 use mathlib.Core.Logic.{inl, inr, ◌⊎◌}
@@ -8,7 +9,7 @@ use Prim.Native.Nat.{ℕ, ◌+◌, ◌<◌, ◌≤◌}
 use borrow.Author.Tests.{eq-eqb, eqb-false, eqb-true, le-leb, leb-true, lt-ltb, ltb-true, ne_eqb}
 use lib.Dec.{eqb, leb, ltb}
 use Rattle.fractions.proofs.Cases.{and_both, cases, not-false, not_true, or_either}
-use Rattle.links.specs.declared.Total.TheVariants as total
+use Rattle.links.specs.declared.NoTotal.TheVariants as no_total
 use Rattle.links.specs.Links.{B, holds, is_fine, is_past_c, sum_of}
 use Rattle.records.specs.Format.{all}
 use Rattle.records.proofs.Alls.{all_at, all_below, all_fails}
@@ -229,14 +230,14 @@ sum_means : (w : List ℕ) → sums_fit w ≡ true → (e : ℕ) → e < 64 → 
 unfolding sums_fit sum_fits
 sum_means w h e l = and_both (not (is_past_c (sum_of (place_of w e)))) (is_fine (B (place_of w e))) (all_at 64 (sum_fits w) e h l)
 
-pub within_means : (w : List ℕ) → sums_fit w ≡ true → (e : ℕ) → e < 64 → sum_of (place_of w e) ≡ total.PastC → ⊥
+pub within_means : (w : List ℕ) → sums_fit w ≡ true → (e : ℕ) → e < 64 → sum_of (place_of w e) ≡ Err no_total.PastC → ⊥
 within_means w h e l = within (sum_of (place_of w e)) (sum_means w h e l).0
 
 pub fine_means : (w : List ℕ) → sums_fit w ≡ true → (e : ℕ) → e < 64 → is_fine (B (place_of w e)) ≡ true
 fine_means w h e l = (sum_means w h e l).1
 
 pub sums_test : (w : List ℕ)
-    → ((e : ℕ) → e < 64 → sum_of (place_of w e) ≡ total.PastC → ⊥)
+    → ((e : ℕ) → e < 64 → sum_of (place_of w e) ≡ Err no_total.PastC → ⊥)
     → ((e : ℕ) → e < 64 → is_fine (B (place_of w e)) ≡ true)
     → sums_fit w ≡ true
 unfolding sums_fit sum_fits

@@ -1,11 +1,12 @@
 -- The empty table passes the test.
 -- Assumes nothing.
+use Rattle.std.specs.Prelude.{Err}
 use mathlib.Core.Bool.{true}
 use mathlib.Core.Path.{ap, refl, sym, ◌∙◌, ◌≡◌}
 use Prim.Native.Nat.{ℕ, ◌*◌, ◌+◌, ◌<◌}
 use native.Mathlib.Omega.{arith}
 use lib.Count.{ones_in}
-use Rattle.links.specs.declared.Total.TheVariants as total
+use Rattle.links.specs.declared.NoTotal.TheVariants as no_total
 use Rattle.links.specs.Links.{B, bound_of, holds, is_fine, is_past_c}
 use Rattle.records.proofs.Somes.{clash}
 use Rattle.ranges.specs.Ranges.{count_fits, link_fits, standing_fits}
@@ -48,7 +49,7 @@ empty_is_passing = record {
   apart = λ e s l k t. none_in_f e s;
   on_path = λ e s l k t. not_held e s t;
   live = λ e s l k t a. not_held e s t;
-  within_c = λ e l q. clash (is_past_c total.PastC) refl (ap is_past_c (sym q ∙ empty_sum e));
+  within_c = λ e l q. clash (is_past_c (Err no_total.PastC)) refl (ap is_past_c (sym q ∙ empty_sum e));
   fine = λ e l. fine_empty e;
 }
 

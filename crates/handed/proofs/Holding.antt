@@ -1,5 +1,7 @@
 -- A link by its words: all that it holds, the sessions in both R and F, and a link that holds nobody.
 -- Assumes nothing.
+use Rattle.fractions.specs.declared.Rate.{Rate}
+use Rattle.std.specs.Prelude.{Result}
 use mathlib.Core.Bool.{Bool, false, not, true, ◌&&◌, ◌||◌}
 use mathlib.Core.List.{List}
 use mathlib.Core.Path.{ap, ap₂, refl, sym, ◌∙◌, ◌≡◌}
@@ -8,14 +10,14 @@ use native.Mathlib.Omega.{arith}
 use borrow.Author.Tests.{eq-eqb}
 use lib.Bits.{bit_and}
 use Rattle.fractions.specs.Fraction.{zero_of}
-use Rattle.links.specs.declared.Total.{Total}
+use Rattle.links.specs.declared.NoTotal.{NoTotal}
 use Rattle.links.specs.Links.{B, bound_of, holds, in_f, is_fine, is_past_c}
 use Rattle.records.specs.Format.{all}
 use Rattle.records.proofs.Alls.{all_at, all_below, all_fails}
 use Rattle.records.proofs.Somes.{implies, not_so}
 use Rattle.sessions.specs.Set.{has, size_of}
 use Rattle.sessions.proofs.Counts.{count_most}
-use Rattle.sessions.proofs.EachMember.{Shown, shown_all}
+use Rattle.sessions.proofs.Chains.{AllPass}
 use Rattle.sessions.proofs.Members.{has_zero, is_in}
 use Rattle.sessions.proofs.Operations.{apart_each, word_apart}
 use Rattle.table.specs.Words.{hop_of, hops_of, link_of, place_of}
@@ -37,19 +39,24 @@ path_of_hop w s e h = go (hop_of w s e) refl
 module _ (w : List ℕ) (e : ℕ) where
   -- ALL THAT IT HOLDS -------------------------------------------------------------------------------------------------
 
-  pub row_all : (left : ℕ) → left ≡ 0 → Shown (λ s. member_passes w e s ≡ true) 32 (held_word w e) left → row_passes w e ≡ true
+  row_all : ((s : ℕ) → s < 32 → has s (held_word w e) ≡ 1 → member_passes w e s ≡ true) → row_passes w e ≡ true
   unfolding row_passes
-  row_all left z h =
+  row_all h =
       all_below 32 (λ s. not (holds (place_of w e) s) || member_passes w e s)
       (λ s l.
       implies (holds (place_of w e) s) (member_passes w e s)
-      (λ t. shown_all (λ s. member_passes w e s ≡ true) 32 (held_word w e) left z h s l (is_in (held_word w e) s (held_is w e s ∙ t))))
+      (λ t. h s l (is_in (held_word w e) s (held_is w e s ∙ t))))
 
-  pub row_fails : (s : ℕ) → s < 32 → has s (held_word w e) ≡ 1 → member_passes w e s ≡ false → row_passes w e ≡ false
+  row_fails : (s : ℕ) → s < 32 → has s (held_word w e) ≡ 1 → member_passes w e s ≡ false → row_passes w e ≡ false
   unfolding row_passes
   row_fails s l i m =
       all_fails 32 (λ s. not (holds (place_of w e) s) || member_passes w e s) s l
       (ap₂ (λ (a b : Bool). not a || b) (sym (held_is w e s) ∙ eq-eqb (has s (held_word w e)) 1 i) m)
+
+  -- what all of the members answer
+  pub row_is : (r : Bool) → AllPass 32 (held_word w e) (member_passes w e) r → r ≡ row_passes w e
+  row_is true h = sym (row_all h)
+  row_is false (s, l, i, m) = sym (row_fails s l i m)
 
   -- IN BOTH R AND F ---------------------------------------------------------------------------------------------------
 
@@ -71,7 +78,7 @@ module _ (w : List ℕ) (e : ℕ) where
     empty_apart = all_below 32 (session_apart w e) (λ s l. ap (λ (a : Bool). not (a && in_f (place_of w e) s)) (nobody_held w e z s).0)
 
     pub empty_row : row_passes w e ≡ true
-    empty_row = row_all 0 refl (λ s l i o. absurd (omega (arith, i, ap (has s) z, has_zero s)))
+    empty_row = row_all (λ s l i. absurd (omega (arith, i, ap (has s) z, has_zero s)))
 
     pub empty_fits : sum_fits w e ≡ true
     unfolding sum_fits B
@@ -79,5 +86,8 @@ module _ (w : List ℕ) (e : ℕ) where
         let q = none_summed w e z in
         let c = (link_of w e).capacity in
         let k = size_of (link_of w e).r in
-        ap₂ ◌&&◌ (ap (λ (x : Total). not (is_past_c x)) q)
-        (ap (λ (x : Total). is_fine (bound_of c k x)) q ∙ fine_within c k zero_of (omega arith) (omega (arith, count_most 32 (link_of w e).r)))
+        ap₂ ◌&&◌ (ap (λ (x : Result Rate NoTotal). not (is_past_c x)) q)
+        (ap (λ (x : Result Rate NoTotal). is_fine (bound_of c k x)) q ∙ fine_within c k zero_of (omega arith) (omega (arith, count_most 32 (link_of w e).r)))
+
+-- what the words of R and F say of a link
+pub ruleset words_held = (empty_apart, empty_fits, empty_row, words_apart, words_meet)

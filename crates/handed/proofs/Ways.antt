@@ -1,13 +1,15 @@
 -- The tests of one packet's hop and way, of a session in both sets, and of a total, as facts.
 -- Assumes nothing.
+use Rattle.fractions.specs.declared.Rate.{Rate}
+use Rattle.std.specs.Prelude.{Result, Ok, Err}
 use mathlib.Core.Bool.{Bool, cond, false, not, true, ◌&&◌}
 use mathlib.Core.Path.{ap, ap₂, refl, sym, ◌≡◌}
 use Prim.Native.Nat.{ℕ, ◌+◌, ◌<◌, ◌≤◌}
 use borrow.Author.Tests.{le-leb, leb-true, lt-ltb, ltb-true}
 use lib.Dec.{leb, ltb}
 use Rattle.fractions.proofs.Cases.{and_both, not_true}
-use Rattle.links.specs.declared.Total.{Total}
-use Rattle.links.specs.declared.Total.TheVariants as total
+use Rattle.links.specs.declared.NoTotal.{NoTotal}
+use Rattle.links.specs.declared.NoTotal.TheVariants as no_total
 use Rattle.records.proofs.Somes.{clash}
 use Rattle.tasks.specs.Packets.{same_way}
 use Rattle.links.specs.Links.{is_past_c}
@@ -49,10 +51,10 @@ pub cond_else : (t a b : Bool) → cond t a b ≡ true → t ≡ false → b ≡
 cond_else true a b e h = absurd (clash true refl h)
 cond_else false a b e h = e
 
-pub within : (y : Total) → not (is_past_c y) ≡ true → y ≡ total.PastC → ⊥
+pub within : (y : Result Rate NoTotal) → not (is_past_c y) ≡ true → y ≡ Err no_total.PastC → ⊥
 within y e q = clash (is_past_c y) (ap is_past_c q) (not_true (is_past_c y) e)
 
-pub within_test : (y : Total) → (y ≡ total.PastC → ⊥) → not (is_past_c y) ≡ true
-within_test (total.Rate y) f = refl
-within_test total.TooFine f = refl
-within_test total.PastC f = absurd (f refl)
+pub within_test : (y : Result Rate NoTotal) → (y ≡ Err no_total.PastC → ⊥) → not (is_past_c y) ≡ true
+within_test (Ok y) f = refl
+within_test (Err no_total.TooFine) f = refl
+within_test (Err no_total.PastC) f = absurd (f refl)

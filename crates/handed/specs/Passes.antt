@@ -1,9 +1,9 @@
 -- What a table that refusal 14 does not turn away is known to be, link by link, session by session and packet by packet.
 -- Assumes nothing: definitions.
-use Rattle.std.specs.Prelude.{false, true, List, ◌≡◌, ℕ, ◌+◌, ◌<◌, ◌≤◌}
+use Rattle.std.specs.Prelude.{false, true, List, ◌≡◌, ℕ, ◌+◌, ◌<◌, ◌≤◌, Ok, Err}
 use Rattle.fractions.specs.declared.Rate.{Rate}
 use Rattle.links.specs.declared.Place.{Place}
-use Rattle.links.specs.declared.Total.TheVariants as total
+use Rattle.links.specs.declared.NoTotal.TheVariants as no_total
 use Rattle.links.specs.Links.{B, holds, in_f, in_r, is_fine, sum_of}
 use Rattle.ranges.specs.Ranges.{count_fits, entry_fits, link_fits, packet_fits, source_fits, standing_fits}
 use Rattle.table.specs.Words.{count_of, hop_of, hops_of, link_of, packet_of, place_of, source_of, stop_of}
@@ -38,10 +38,10 @@ pub record Passes (w : List ℕ) : Type 0 where
   pub apart : (e s : ℕ) → e < 64 → s < 32 → in_r (place_of w e) s ≡ true → in_f (place_of w e) s ≡ false
   pub on_path : (e s : ℕ) → e < 64 → s < 32 → holds (place_of w e) s ≡ true → 0 < hop_of w s e
   pub live : (e s : ℕ) → e < 64 → s < 32 → holds (place_of w e) s ≡ true → (source_of w s).active ≡ false → LeaveToCome w s (hop_of w s e)
-  pub within_c : (e : ℕ) → e < 64 → sum_of (place_of w e) ≡ total.PastC → ⊥
+  pub within_c : (e : ℕ) → e < 64 → sum_of (place_of w e) ≡ Err no_total.PastC → ⊥
   pub fine : (e : ℕ) → e < 64 → is_fine (B (place_of w e)) ≡ true
 
 -- the sum of F is a rate: no partial sum was too fine, and it is not past C
 pub record SumIsRate (p : Place) : Type 0 where
   pub sum : Rate
-  pub sums : sum_of p ≡ total.Rate sum
+  pub sums : sum_of p ≡ Ok sum

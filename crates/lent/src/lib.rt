@@ -1,46 +1,41 @@
 // A link and its entries that the caller keeps and lends: the F check on a slice of entries, and the step at a link with the link's own record lent.
-// Each takes what is lent apart, calls a function on values, and puts the result back (01, "The tasks").
+// Each calls a function on values, and puts what it answers back where it stood (01, "The tasks").
 #![tactic(auto)]
 
-ghost use Rattle.std.specs.Prelude.{◌++◌, ◌≡◌, ◌≤◌, drop, length, replicate, take};
+ghost use Rattle.std.specs.Prelude.{Result, ◌≡◌, replicate};
+ghost use Rattle.records.specs.declared.Refusal.{Refusal};
+ghost use Rattle.links.specs.declared.Place.{Place};
 ghost use Rattle.fractions.specs.Fraction.{zero_of};
 ghost use Rattle.links.specs.Links.{entry};
 ghost use Rattle.links.specs.declared.Mu.TheVariants as mu;
-ghost use Rattle.lent.specs.Lent.{apart, check_number, check_refused, f_check_of, fits, in_range, kind_fits, rates_fit, step_fits, step_link_of, step_number, step_refused};
+ghost use Rattle.lent.specs.Lent.{answer_number, apart, check_of, f_check_of, fits, in_range, kind_fits, lent_of, rates_fit, step_fits, step_link_of, step_of, Works};
 
 use fractions::Rate;
 use links::{Bound, Entry, Link, Mu, Place};
 use records::Refusal;
-use tasks::{Burst, Kind, Onward};
+use tasks::{Burst, Kind};
 
-// What the F check answers: the sessions that are sent an Update, and the link's B; or why nothing was done.
+// What the F check gives: the sessions that are sent an Update, and the link's B.
 #[derive(Clone, Copy)]
-pub enum FChecked {
-    Done { to: u32, bound: Bound },
-    Refused { refusal: Refusal },
+pub struct Checked {
+    pub to: u32,
+    pub bound: Bound,
 }
 
-// What the step answers: what is sent, first to the sessions of a word by rising number, then of the packet's own; or why nothing was done.
+// What the step gives: what is sent, first to the sessions of a word by rising number, then of the packet's own, if anything.
 #[derive(Clone, Copy)]
-pub enum Stepped {
-    Done { burst: Burst, to: u32, on: Onward },
-    Refused { refusal: Refusal },
+pub struct Sent {
+    pub burst: Burst,
+    pub to: u32,
+    pub on: Option<Kind>,
 }
 
-// A link and its entries after the F check, with its answer.
+// A link and its entries after a call, with its answer: what it gives, or why nothing was done.
 #[derive(Clone, Copy)]
-pub struct Checking {
+pub struct After<A> {
     pub link: Link,
     pub entries: [Entry; 32],
-    pub answer: FChecked,
-}
-
-// A link and its entries after the step, with its answer.
-#[derive(Clone, Copy)]
-pub struct Stepping {
-    pub link: Link,
-    pub entries: [Entry; 32],
-    pub answer: Stepped,
+    pub answer: Result<A, Refusal>,
 }
 
 // The entries of a link that holds no session.
@@ -59,46 +54,30 @@ pub fn no_entries() -> [Entry; 32]
 fn rates_fit(entries: [Entry; 32]) -> bool
     ensures { result ≡ rates_fit entries }
 {
-    for s in 0..32usize {
-        let x = entries[s];
-        if !x.rate.is_rate() {
-            return false;
-        }
-    }
-    true
+    entries.iter().all(|x| x.rate.is_rate())
 }
 
 // Whether the capacity is within its limit too.
-fn in_range(link: Link, entries: [Entry; 32]) -> bool
-    ensures { result ≡ in_range link entries }
+#[tactic(auto, unfolding(crate::specs::Lent::in_range))]
+fn in_range(p: Place) -> bool
+    ensures { result ≡ in_range p }
 {
-    link.capacity <= Rate::MAX && rates_fit(entries)
+    p.link.capacity <= Rate::MAX && rates_fit(p.entries)
 }
 
 // Whether no session is in both R and F.
 fn apart(link: Link) -> bool
     ensures { result ≡ apart link }
 {
-    let both = link.r & link.f;
-    both == 0
+    link.r & link.f == 0
 }
 
 // Whether, besides, F sums to no more than the capacity.
-fn fits(link: Link, entries: [Entry; 32]) -> bool
-    ensures { result ≡ fits link entries }
+#[tactic(auto, using(crate::proofs::Fitting::range_workable), unfolding(crate::specs::Lent::fits))]
+fn fits(p: Place) -> bool
+    ensures { result ≡ fits p }
 {
-    if !in_range(link, entries) {
-        return false;
-    }
-    if !apart(link) {
-        return false;
-    }
-    let p = Place {
-        link: link,
-        entries: entries,
-    };
-    let total = links::sum_of_f(p);
-    !links::is_past_c(total)
+    in_range(p) && apart(p.link) && !links::is_past_c(links::sum_of_f(p))
 }
 
 // Whether the rate that a packet carries is one.
@@ -106,213 +85,146 @@ fn kind_fits(kind: Kind) -> bool
     ensures { result ≡ kind_fits kind }
 {
     match kind {
-        Kind::Join(x, eta) => x.is_rate(),
-        Kind::Probe(x, eta) => x.is_rate(),
-        Kind::Response(tau, x, eta) => x.is_rate(),
-        Kind::Update => true,
-        Kind::Bottleneck => true,
-        Kind::SetBottleneck(beta) => true,
-        Kind::Leave => true,
+        Kind::Join(x, _) | Kind::Probe(x, _) | Kind::Response(_, x, _) => x.is_rate(),
+        _ => true,
     }
 }
 
-// A refusal of the F check: the link and its entries are left as they were.
-fn check_refused(refusal: Refusal, link: Link, entries: [Entry; 32]) -> Checking
-    ensures { result ≡ check_refused refusal link entries }
+// The F check on values: 14, 12, or the link after it.
+#[tactic(auto, using(crate::proofs::Fitting::fits_workable), unfolding(crate::specs::Lent::check_of))]
+fn check(p: Place) -> Result<(Place, Checked), Refusal>
+    ensures { result ≡ check_of p }
 {
-    Checking {
-        link: link,
-        entries: entries,
-        answer: FChecked::Refused { refusal },
+    if !fits(p) {
+        return Err(Refusal::BadTable);
     }
-}
-
-// The F check on values.
-fn check(link: Link, entries: [Entry; 32]) -> Checking
-    ensures { result ≡ f_check_of link entries }
-{
-    if !fits(link, entries) {
-        return check_refused(Refusal::BadTable, link, entries);
-    }
-    let p = Place {
-        link: link,
-        entries: entries,
-    };
     let q = links::process_new_restricted(p);
-    let next = q.place;
-    let l = next.link;
-    let a = next.entries;
-    let b = q.bound;
-    if !links::is_fine(b) {
-        return check_refused(Refusal::TooFine, link, entries);
+    if !links::is_fine(q.bound) {
+        return Err(Refusal::TooFine);
     }
-    Checking {
-        link: l,
-        entries: a,
-        answer: FChecked::Done { to: q.to, bound: b },
-    }
+    Ok((
+        q.place,
+        Checked {
+            to: q.to,
+            bound: q.bound,
+        },
+    ))
 }
 
 // Whether the packet, the link and its entries fit, and the link's own sums and B are fine.
-fn step_fits(s: u32, kind: Kind, link: Link, entries: [Entry; 32]) -> bool
-    ensures { result ≡ step_fits s kind link entries }
+#[tactic(auto, using(crate::proofs::Fitting::fits_workable), unfolding(crate::specs::Lent::step_fits))]
+fn step_fits(s: u32, kind: Kind, p: Place) -> bool
+    ensures { result ≡ step_fits s kind p }
 {
-    if 32 <= s {
-        return false;
-    }
-    if !kind_fits(kind) {
-        return false;
-    }
-    if !fits(link, entries) {
-        return false;
-    }
-    let p = Place {
-        link: link,
-        entries: entries,
-    };
-    let b = links::bottleneck_rate(p);
-    links::is_fine(b)
+    s < 32 && kind_fits(kind) && fits(p) && links::is_fine(links::bottleneck_rate(p))
 }
 
-// A refusal of the step, likewise.
-fn step_refused(refusal: Refusal, link: Link, entries: [Entry; 32]) -> Stepping
-    ensures { result ≡ step_refused refusal link entries }
+// The step on values, likewise.
+#[tactic(auto, using(crate::proofs::Fitting::step_fits_all), unfolding(crate::specs::Lent::step_of))]
+fn step(e: u32, s: u32, kind: Kind, p: Place) -> Result<(Place, Sent), Refusal>
+    ensures { result ≡ step_of e s kind p }
 {
-    Stepping {
-        link: link,
-        entries: entries,
-        answer: Stepped::Refused { refusal },
+    if !step_fits(s, kind, p) {
+        return Err(Refusal::BadTable);
     }
-}
-
-// The step on values.
-fn step(e: u32, s: u32, kind: Kind, link: Link, entries: [Entry; 32]) -> Stepping
-    ensures { result ≡ step_link_of e s kind link entries }
-{
-    if !step_fits(s, kind, link, entries) {
-        return step_refused(Refusal::BadTable, link, entries);
-    }
-    let p = Place {
-        link: link,
-        entries: entries,
-    };
     let d = tasks::link_step(e, s, kind, p);
-    let next = d.place;
-    let new_link = next.link;
-    let a = next.entries;
     if !d.fine {
-        return step_refused(Refusal::TooFine, link, entries);
+        return Err(Refusal::TooFine);
     }
-    let burst = d.burst;
-    let on = d.on;
-    Stepping {
-        link: new_link,
-        entries: a,
-        answer: Stepped::Done {
-            burst: burst,
+    Ok((
+        d.place,
+        Sent {
+            burst: d.burst,
             to: d.to,
-            on: on,
+            on: d.on,
         },
-    }
+    ))
 }
 
 // LENT ----------------------------------------------------------------------------------------------------------------
 
-// The first 32 places of a slice.
-fn load(entries: &[Entry]) -> [Entry; 32]
-    requires { 32 ≤ length entries.now }
-    ensures { result ≡ take 32 entries.now }
+// Works out f on a link and its entries that are lent, which are the first 32 places of the slice: what it gives stands where they stood, and where it
+// refuses all is as it was.
+#[tactic(auto, unfolding(crate::specs::Lent::lent_of))]
+fn lend<A, F: Fn(Place) -> Result<(Place, A), Refusal>>(
+    link: &mut Link,
+    entries: &mut [Entry],
+    f: F,
+) -> Result<A, Refusal>
+    requires { F.IsAlwaysCallable f }
+    ensures { (of : Place → Result (Place × A) Refusal) → Works (F.post f) of
+        → (result ≡ (lent_of of link.old entries.old).answer)
+        × (link.new ≡ (lent_of of link.old entries.old).link)
+        × (entries.new ≡ (lent_of of link.old entries.old).entries) }
 {
-    let mut a = no_entries();
-    let mut i: usize = 0;
-    while i < 32 {
-        a[i] = entries[i];
-        i += 1;
-    }
-    a
-}
-
-// Puts 32 entries into the first 32 places of a slice.
-fn store(entries: &mut [Entry], a: [Entry; 32])
-    requires { 32 ≤ length entries.old }
-    ensures { entries.new ≡ a ++ drop 32 entries.old }
-{
-    let mut k: usize = 0;
-    while k < 32 {
-        entries[k] = a[k];
-        k += 1;
-    }
+    let Some(own) = entries.first_chunk_mut::<32>() else {
+        return Err(Refusal::ShortSlice);
+    };
+    let before = Place {
+        link: *link,
+        entries: *own,
+    };
+    let (next, given) = f(before)?;
+    own.copy_from_slice(&next.entries);
+    *link = next.link;
+    Ok(given)
 }
 
 // The F check (001, Figure 2, lines 5 to 10) on a link and its entries that are lent: those that return from F to R, and those that are set to wait
 // for a probe, change where they stand. The entries are the first 32 places of the slice.
-pub fn f_check(link: &mut Link, entries: &mut [Entry]) -> FChecked
+pub fn f_check(link: &mut Link, entries: &mut [Entry]) -> Result<Checked, Refusal>
     ensures { (result ≡ (f_check_of link.old entries.old).answer)
-        × (check_number result ≡ check_number (f_check_of link.old entries.old).answer)
+        × (answer_number result ≡ answer_number (f_check_of link.old entries.old).answer)
         × (link.new ≡ (f_check_of link.old entries.old).link)
         × (entries.new ≡ (f_check_of link.old entries.old).entries) }
 {
-    if entries.len() < 32 {
-        return FChecked::Refused {
-            refusal: Refusal::ShortSlice,
-        };
-    }
-    let l = *link;
-    let a = load(entries);
-    let c = check(l, a);
-    let b = c.entries;
-    store(entries, b);
-    *link = c.link;
-    c.answer
+    lend(link, entries, check)
 }
 
 // The step of link e for a packet of session s (001, Figure 2), with the link's own record and its entries lent and updated.
-pub fn step_link(e: u32, s: u32, kind: Kind, link: &mut Link, entries: &mut [Entry]) -> Stepped
+pub fn step_link(
+    e: u32,
+    s: u32,
+    kind: Kind,
+    link: &mut Link,
+    entries: &mut [Entry],
+) -> Result<Sent, Refusal>
     ensures { (result ≡ (step_link_of e s kind link.old entries.old).answer)
-        × (step_number result ≡ step_number (step_link_of e s kind link.old entries.old).answer)
+        × (answer_number result ≡ answer_number (step_link_of e s kind link.old entries.old).answer)
         × (link.new ≡ (step_link_of e s kind link.old entries.old).link)
         × (entries.new ≡ (step_link_of e s kind link.old entries.old).entries) }
 {
-    if entries.len() < 32 {
-        return Stepped::Refused {
-            refusal: Refusal::ShortSlice,
-        };
-    }
-    let l = *link;
-    let a = load(entries);
-    let c = step(e, s, kind, l, a);
-    let b = c.entries;
-    store(entries, b);
-    *link = c.link;
-    c.answer
+    lend(link, entries, |p| step(e, s, kind, p))
 }
 
 // PLAIN PARAMETERS ----------------------------------------------------------------------------------------------------
 
 // The F check through the lent form, with plain parameters: a caller of it lends nothing.
-pub fn f_check_plain(link: Link, entries: [Entry; 32]) -> Checking
+pub fn f_check_plain(mut link: Link, mut entries: [Entry; 32]) -> After<Checked>
     ensures { result ≡ f_check_of link entries }
 {
-    let mut l = link;
-    let mut a = entries;
-    let r = f_check(&mut l, &mut a);
-    Checking {
-        link: l,
-        entries: a,
-        answer: r,
+    let answer = f_check(&mut link, &mut entries);
+    After {
+        link,
+        entries,
+        answer,
     }
 }
 
 // The step through the lent form, with plain parameters.
-pub fn step_link_plain(e: u32, s: u32, kind: Kind, link: Link, entries: [Entry; 32]) -> Stepping
+pub fn step_link_plain(
+    e: u32,
+    s: u32,
+    kind: Kind,
+    mut link: Link,
+    mut entries: [Entry; 32],
+) -> After<Sent>
     ensures { result ≡ step_link_of e s kind link entries }
 {
-    let mut l = link;
-    let mut a = entries;
-    let r = step_link(e, s, kind, &mut l, &mut a);
-    Stepping {
-        link: l,
-        entries: a,
-        answer: r,
+    let answer = step_link(e, s, kind, &mut link, &mut entries);
+    After {
+        link,
+        entries,
+        answer,
     }
 }

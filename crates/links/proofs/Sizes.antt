@@ -9,11 +9,9 @@ use lib.ListN.{get_or, length-set, set}
 use lib.Seq.{get_or-set_same, get_or-set_other}
 use native.Mathlib.Omega.{arith}
 use Prim.Native.Nat.{ℕ, zero, suc, ◌+◌, ◌*◌, ◌≤◌, ◌<◌}
+use Rattle.std.specs.Prelude.{Result, Ok, Err}
 use Rattle.fractions.specs.declared.Rate.{Rate}
-use Rattle.fractions.specs.declared.Share.{Share}
-use Rattle.fractions.specs.declared.Share.TheVariants as share
-use Rattle.fractions.specs.declared.Sum.{Sum}
-use Rattle.fractions.specs.declared.Sum.TheVariants as sum
+use Rattle.fractions.specs.declared.TooFine.{TooFine}
 use Rattle.fractions.specs.Fraction.{Sized, le_of, limit, max_rate, plus_of, share_of, whole_of, zero_of}
 use Rattle.fractions.proofs.Cases.{cases, order}
 use Rattle.fractions.proofs.Ranges.{plus_sized, sized_more, whole_sized, within_sized}
@@ -22,17 +20,15 @@ use Rattle.sessions.proofs.Walks.{walk_keeps}
 use Rattle.links.specs.declared.Entry.{Entry}
 use Rattle.links.specs.declared.Mu.{Mu}
 use Rattle.links.specs.declared.Mu.TheVariants as mu
+use Rattle.links.specs.declared.NoTotal.{NoTotal}
+use Rattle.links.specs.declared.NoTotal.TheVariants as no_total
 use Rattle.links.specs.declared.Place.{Place}
-use Rattle.links.specs.declared.Total.{Total}
-use Rattle.links.specs.declared.Total.TheVariants as total
-use Rattle.links.specs.declared.Wanted.TheVariants as wanted
 use Rattle.links.specs.FCheck.{check_of, higher_of, highest_of, process_of, turn_of}
 use Rattle.links.specs.Links.{
   B,
   BoundSized,
   F,
   Rates,
-  SumSized,
   TotalSized,
   Workable,
   as_bound,
@@ -49,6 +45,7 @@ use Rattle.links.specs.Links.{
   with_entry,
   with_mu,
   with_words,
+  at_least,
 }
 
 -- what holds of a rate within its range holds within the limit of comparisons
@@ -58,26 +55,25 @@ to_limit = sized_more {m = max_rate} {n = limit} (lit≤ tt)
 -- SUMS ----------------------------------------------------------------------------------------------------------------
 
 -- a sum of two that comes back as a rate
-pub two_sized : {a b : Rate} → Sized max_rate a → Sized max_rate b → SumSized (plus_of a b)
+pub two_sized : {a b : Rate} → Sized max_rate a → Sized max_rate b → TotalSized limit (plus_of a b)
 two_sized {a} {b} u v = go (plus_of a b) refl
   where
-    go : (y : Sum) → plus_of a b ≡ y → SumSized y
-    go (sum.Rate y) e = sized_more {m = max_rate + max_rate} {n = limit} (lit≤ tt) (plus_sized u v e)
-    go sum.TooFine e = lit≤ tt
+    go : (y : Result Rate TooFine) → plus_of a b ≡ y → TotalSized limit y
+    go (Ok y) e = sized_more {m = max_rate + max_rate} {n = limit} (lit≤ tt) (plus_sized u v e)
+    go (Err _) e = tt
 
-pub upto_sized : (c : ℕ) (y : Sum) → SumSized y → TotalSized c (upto_of c y)
+pub upto_sized : (c : ℕ) (y : Result Rate TooFine) → TotalSized limit y → TotalSized c (upto_of c y)
 unfolding upto_of
-upto_sized c (sum.Rate y) h =
-    cases (TotalSized c) (le_of y (whole_of c)) (total.Rate y) total.PastC
+upto_sized c (Ok y) h =
+    cases (TotalSized c) (le_of y (whole_of c)) (Ok y) (Err no_total.PastC)
     (λ e. record { pos = h.pos; den = h.den; num = omega (arith, leb-true (y.num * 1) (c * y.den) e) })
-    (λ e. lit≤ tt)
-upto_sized c sum.TooFine h = lit≤ tt
+    (λ e. tt)
+upto_sized c (Err _) h = tt
 
-pub more_sized : (c : ℕ) (a : Total) (x : Rate) → c ≤ max_rate → TotalSized c a → Sized max_rate x → TotalSized c (more_of c a x)
+pub more_sized : (c : ℕ) (a : Result Rate NoTotal) (x : Rate) → c ≤ max_rate → TotalSized c a → Sized max_rate x → TotalSized c (more_of c a x)
 unfolding more_of
-more_sized c (total.Rate y) x h u v = upto_sized c (plus_of y x) (two_sized (sized_more h u) v)
-more_sized c total.TooFine x h u v = lit≤ tt
-more_sized c total.PastC x h u v = lit≤ tt
+more_sized c (Ok y) x h u v = upto_sized c (plus_of y x) (two_sized (sized_more h u) v)
+more_sized c (Err _) x h u v = tt
 
 -- the sum of F
 pub sum_sized : (p : Place) → Workable p → TotalSized p.link.capacity (sum_of p)
@@ -86,7 +82,7 @@ sum_sized p o =
     let c = p.link.capacity in
     walk_keeps (TotalSized c) (λ a s. more_of c a (rate_at p s)) 32 p.link.f
     (λ a s l q. more_sized c a (rate_at p s) o.capacity q (o.rates.sized s l))
-    (total.Rate zero_of) (whole_sized {m = c} {n = 0} (omega arith))
+    (Ok zero_of) (whole_sized {m = c} {n = 0} (omega arith))
 
 -- the higher of two
 pub higher_sized : (a b : Rate) → Sized max_rate a → Sized max_rate b → Sized max_rate (higher_of a b)
@@ -97,17 +93,17 @@ higher_sized a b u v = cases (Sized max_rate) (le_of a b) b a (λ e. v) (λ e. u
 share_sized : (c : ℕ) (y : Rate) (k : ℕ) → c ≤ max_rate → 0 < y.den → 0 < k → BoundSized (as_bound (share_of c y k))
 share_sized c y k h u v = go (share_of c y k) refl
   where
-    go : (z : Share) → share_of c y k ≡ z → BoundSized (as_bound z)
-    go (share.Rate b) e = sized_more h (within_sized (share_within c y k u v e).1)
-    go share.TooFine e = lit≤ tt
+    go : (z : Result Rate TooFine) → share_of c y k ≡ z → BoundSized (as_bound z)
+    go (Ok b) e = sized_more h (within_sized (share_within c y k u v e).1)
+    go (Err _) e = lit≤ tt
 
-pub bound_sized : (c k : ℕ) (a : Total) → c ≤ max_rate → TotalSized c a → BoundSized (bound_of c k a)
+pub bound_sized : (c k : ℕ) (a : Result Rate NoTotal) → c ≤ max_rate → TotalSized c a → BoundSized (bound_of c k a)
 unfolding bound_of
-bound_sized c k total.TooFine h u = lit≤ tt
-bound_sized c zero (total.Rate y) h u = lit≤ tt
-bound_sized c (suc k) (total.Rate y) h u = share_sized c y (suc k) h u.pos (omega arith)
-bound_sized c zero total.PastC h u = lit≤ tt
-bound_sized c (suc k) total.PastC h u = whole_sized {m = max_rate} {n = 0} (lit≤ tt)
+bound_sized c k (Err no_total.TooFine) h u = lit≤ tt
+bound_sized c zero (Ok y) h u = lit≤ tt
+bound_sized c (suc k) (Ok y) h u = share_sized c y (suc k) h u.pos (omega arith)
+bound_sized c zero (Err no_total.PastC) h u = lit≤ tt
+bound_sized c (suc k) (Err no_total.PastC) h u = whole_sized {m = max_rate} {n = 0} (lit≤ tt)
 
 pub b_sized : (p : Place) → Workable p → BoundSized (B p)
 unfolding B
@@ -161,7 +157,7 @@ pub check_workable : (k : ℕ) (p : Place) → Workable p → Workable (check_of
 unfolding check_of
 check_workable zero p o = o
 check_workable (suc k) p o =
-    cases Workable (some_of (wanted.AtLeast (B p)) p.entries (F p)) (check_of k (turn_of p)) p (λ e. check_workable k (turn_of p) (turn_workable p o)) (λ e. o)
+    cases Workable (some_of (at_least (B p)) p.entries (F p)) (check_of k (turn_of p)) p (λ e. check_workable k (turn_of p) (turn_workable p o)) (λ e. o)
 
 -- A LINK AFTER A CHANGE -----------------------------------------------------------------------------------------------
 

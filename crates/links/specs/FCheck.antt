@@ -8,8 +8,7 @@ use Rattle.sessions.specs.Set.{members, walk}
 use Rattle.links.specs.declared.Checked.{Checked}
 use Rattle.links.specs.declared.Place.{Place}
 use Rattle.links.specs.declared.Processed.{Processed}
-use Rattle.links.specs.declared.Wanted.TheVariants as wanted
-use Rattle.links.specs.Links.{B, F, R, rate_at, some_of, those_of, waiting_of, with_words}
+use Rattle.links.specs.Links.{B, F, R, rate_at, some_of, those_of, waiting_of, with_words, at_least, has_other_rate, has_rate, idle_above}
 
 abbrev pub higher_of : Rate → Rate → Rate
 higher_of a b = cond (le_of a b) b a
@@ -22,12 +21,12 @@ highest_of p = walk (λ m s. higher_of m (rate_at p s)) zero_of (members (F p))
 unfoldable pub turn_of : Place → Place
 turn_of p =
     let m = highest_of p in
-    with_words p (bit_or (R p) (those_of (wanted.Equal m) p.entries (F p))) (those_of (wanted.Other m) p.entries (F p))
+    with_words p (bit_or (R p) (those_of (has_rate m) p.entries (F p))) (those_of (has_other_rate m) p.entries (F p))
 
 -- line 5: while ∃ s ∈ F : λ_s ≥ B. Each turn makes F smaller, so 32 turns are enough
 unfoldable pub check_of : ℕ → Place → Place
 check_of zero p = p
-check_of (suc k) p = cond (some_of (wanted.AtLeast (B p)) p.entries (F p)) (check_of k (turn_of p)) p
+check_of (suc k) p = cond (some_of (at_least (B p)) p.entries (F p)) (check_of k (turn_of p)) p
 
 -- a link that the check leaves, with its B
 abbrev pub checked_of : Place → Checked
@@ -35,7 +34,7 @@ checked_of q = record { place = q; bound = B q }
 
 -- line 9: {s ∈ R : μ_s = IDLE ∧ λ_s > B}
 abbrev pub over_b : Place → ℕ
-over_b p = those_of (wanted.IdleAbove (B p)) p.entries (R p)
+over_b p = those_of (idle_above (B p)) p.entries (R p)
 
 -- ProcessNewRestricted, lines 5 to 10: the link after it, the sessions that are sent an Update, and its B, which lines 9 and 10 do not change
 unfoldable pub process_of : Place → Processed

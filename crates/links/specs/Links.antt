@@ -1,24 +1,19 @@
 -- A link with its entries: its words R and F, the sum of F, its rate B (also in 01's number and values), comparisons with B, and sets of its sessions.
 -- Follows 001, section III, and 01, "The tasks".
 -- Assumes nothing: definitions.
-use Rattle.std.specs.Prelude.{Bool, cond, false, not, true, ◌&&◌, ◌||◌, List, ◌≡◌, ℕ, zero, suc, ◌≤◌, ◌<◌, eqb, get_or, length, set}
+use Rattle.std.specs.Prelude.{Bool, cond, false, not, true, ◌&&◌, ◌||◌, List, ◌≡◌, ℕ, zero, suc, ◌≤◌, ◌<◌, eqb, get_or, length, set, Result, Ok, Err, IfOk}
 use Rattle.fractions.specs.declared.Rate.{Rate}
-use Rattle.fractions.specs.declared.Share.{Share}
-use Rattle.fractions.specs.declared.Share.TheVariants as share
-use Rattle.fractions.specs.declared.Sum.{Sum}
-use Rattle.fractions.specs.declared.Sum.TheVariants as sum
-use Rattle.fractions.specs.Fraction.{Sized, frac, le_of, limit, lt_of, max_rate, no_rate, plus_of, RateSaid, rate_said, same_of, share_of, whole_of, zero_of}
+use Rattle.fractions.specs.declared.TooFine.{TooFine}
+use Rattle.fractions.specs.Fraction.{Sized, frac, le_of, lt_of, max_rate, no_rate, plus_of, RateSaid, rate_said, same_of, share_of, whole_of, zero_of}
 use Rattle.sessions.specs.Set.{has_of, members, put, size_of, walk}
 use Rattle.links.specs.declared.Bound.{Bound}
 use Rattle.links.specs.declared.Bound.TheVariants as bound
 use Rattle.links.specs.declared.Entry.{Entry}
 use Rattle.links.specs.declared.Mu.{Mu}
 use Rattle.links.specs.declared.Mu.TheVariants as mu
+use Rattle.links.specs.declared.NoTotal.{NoTotal}
+use Rattle.links.specs.declared.NoTotal.TheVariants as no_total
 use Rattle.links.specs.declared.Place.{Place}
-use Rattle.links.specs.declared.Total.{Total}
-use Rattle.links.specs.declared.Total.TheVariants as total
-use Rattle.links.specs.declared.Wanted.{Wanted}
-use Rattle.links.specs.declared.Wanted.TheVariants as wanted
 
 -- what an index past the end reads: no session has it
 abbrev pub no_entry : Entry
@@ -70,50 +65,49 @@ holds p s = in_r p s || in_f p s
 -- THE SUM OF F --------------------------------------------------------------------------------------------------------
 
 -- a sum of rates at a link of capacity c: 01's refusal 14 turns a link away "whose F sums past C", so such a sum is followed no further
-unfoldable pub upto_of : ℕ → Sum → Total
-upto_of c (sum.Rate y) = cond (le_of y (whole_of c)) (total.Rate y) total.PastC
-upto_of c sum.TooFine = total.TooFine
+unfoldable pub upto_of : ℕ → Result Rate TooFine → Result Rate NoTotal
+upto_of c (Ok y) = cond (le_of y (whole_of c)) (Ok y) (Err no_total.PastC)
+upto_of c (Err _) = Err no_total.TooFine
 
 -- one rate more
-unfoldable pub more_of : ℕ → Total → Rate → Total
-more_of c (total.Rate y) x = upto_of c (plus_of y x)
-more_of c total.TooFine x = total.TooFine
-more_of c total.PastC x = total.PastC
+unfoldable pub more_of : ℕ → Result Rate NoTotal → Rate → Result Rate NoTotal
+more_of c (Ok y) x = upto_of c (plus_of y x)
+more_of c (Err e) x = Err e
 
 -- 01: "F is summed by rising session number, each partial sum in lowest terms"
-unfoldable pub sum_of : Place → Total
-sum_of p = walk (λ a s. more_of p.link.capacity a (rate_at p s)) (total.Rate zero_of) (members (F p))
+unfoldable pub sum_of : Place → Result Rate NoTotal
+sum_of p = walk (λ a s. more_of p.link.capacity a (rate_at p s)) (Ok zero_of) (members (F p))
 
 -- refusal 14: "a link whose F sums past C"
-abbrev pub is_past_c : Total → Bool
-is_past_c (total.Rate y) = false
-is_past_c total.TooFine = false
-is_past_c total.PastC = true
+abbrev pub is_past_c : Result Rate NoTotal → Bool
+is_past_c (Ok y) = false
+is_past_c (Err no_total.TooFine) = false
+is_past_c (Err no_total.PastC) = true
 
 -- B -------------------------------------------------------------------------------------------------------------------
 
-abbrev pub as_bound : Share → Bound
-as_bound (share.Rate b) = bound.At b
-as_bound share.TooFine = bound.TooFine
+abbrev pub as_bound : Result Rate TooFine → Bound
+as_bound (Ok b) = bound.At b
+as_bound (Err _) = bound.TooFine
 
 -- B of a link of capacity c whose F sums to a total and whose R has k members: (C - sum of F) / |R| (001, III.C). 01: "where R is empty, B counts
 -- as above every rate". Where F sums past C nothing is left; no table that passes the test of refusal 14 has such a link.
-unfoldable pub bound_of : ℕ → ℕ → Total → Bound
-bound_of c k total.TooFine = bound.TooFine
-bound_of c zero (total.Rate y) = bound.Above
-bound_of c (suc k) (total.Rate y) = as_bound (share_of c y (suc k))
-bound_of c zero total.PastC = bound.Above
-bound_of c (suc k) total.PastC = bound.At zero_of
+unfoldable pub bound_of : ℕ → ℕ → Result Rate NoTotal → Bound
+bound_of c k (Err no_total.TooFine) = bound.TooFine
+bound_of c zero (Ok y) = bound.Above
+bound_of c (suc k) (Ok y) = as_bound (share_of c y (suc k))
+bound_of c zero (Err no_total.PastC) = bound.Above
+bound_of c (suc k) (Err no_total.PastC) = bound.At zero_of
 
 -- 01, expected form: the count of ones of R's word is the divisor
 unfoldable pub B : Place → Bound
 B p = bound_of p.link.capacity (size_of (R p)) (sum_of p)
 
 -- 01's number and values of a sum of F and of a B: too fine is refusal 12, and F past C is refusal 14; above every rate are the values 1 and 0
-abbrev pub total_said : Total → RateSaid
-total_said (total.Rate y) = rate_said y
-total_said total.TooFine = no_rate 12
-total_said total.PastC = no_rate 14
+abbrev pub total_said : Result Rate NoTotal → RateSaid
+total_said (Ok y) = rate_said y
+total_said (Err no_total.TooFine) = no_rate 12
+total_said (Err no_total.PastC) = no_rate 14
 
 abbrev pub bound_said : Bound → RateSaid
 bound_said (bound.At b) = rate_said b
@@ -154,31 +148,39 @@ at_most_b bound.TooFine x = false
 
 -- SETS OF SESSIONS ----------------------------------------------------------------------------------------------------
 
--- what is asked of an entry
-abbrev pub meets_of : Wanted → Entry → Bool
-meets_of (wanted.Equal m) x = same_of x.rate m
-meets_of (wanted.Other m) x = not (same_of x.rate m)
-meets_of (wanted.AtLeast b) x = at_least_b b x.rate
-meets_of (wanted.IdleAbove b) x = is_idle x.mu && above_b b x.rate
-meets_of (wanted.IdleAt b) x = is_idle x.mu && equals_b b x.rate
+-- what Figure 2 asks of an entry: λ = m, λ ≠ m; λ ≥ B; μ = IDLE ∧ λ > B, μ = IDLE ∧ λ = B
+abbrev pub has_rate : Rate → Entry → Bool
+has_rate m x = same_of x.rate m
 
--- the members of w whose entries meet it: {s ∈ w : ..}
-abbrev pub add_if : Wanted → List Entry → ℕ → ℕ → ℕ
-add_if a es w s = cond (meets_of a (get_or es s no_entry)) (put s w) w
+abbrev pub has_other_rate : Rate → Entry → Bool
+has_other_rate m x = not (same_of x.rate m)
 
-unfoldable pub those_of : Wanted → List Entry → ℕ → ℕ
-those_of a es w = walk (add_if a es) 0 (members w)
+abbrev pub at_least : Bound → Entry → Bool
+at_least b x = at_least_b b x.rate
+
+abbrev pub idle_above : Bound → Entry → Bool
+idle_above b x = is_idle x.mu && above_b b x.rate
+
+abbrev pub idle_at : Bound → Entry → Bool
+idle_at b x = is_idle x.mu && equals_b b x.rate
+
+-- the members of w whose entries meet a test: {s ∈ w : ..}
+abbrev pub add_if : (Entry → Bool) → List Entry → ℕ → ℕ → ℕ
+add_if meets es w s = cond (meets (get_or es s no_entry)) (put s w) w
+
+unfoldable pub those_of : (Entry → Bool) → List Entry → ℕ → ℕ
+those_of meets es w = walk (add_if meets es) 0 (members w)
 
 -- "for all r ∈ R" and "there is an s ∈ F"
-abbrev pub all_of : Wanted → List Entry → ℕ → Bool
-all_of a es w = eqb (those_of a es w) w
+abbrev pub all_of : (Entry → Bool) → List Entry → ℕ → Bool
+all_of meets es w = eqb (those_of meets es w) w
 
-abbrev pub some_of : Wanted → List Entry → ℕ → Bool
-some_of a es w = not (eqb (those_of a es w) 0)
+abbrev pub some_of : (Entry → Bool) → List Entry → ℕ → Bool
+some_of meets es w = not (eqb (those_of meets es w) 0)
 
 -- Figure 2, lines 25 and 46: ∀ r ∈ R, λ_r = B ∧ μ_r = IDLE
 abbrev pub all_at_b : Bound → Place → Bool
-all_at_b b p = all_of (wanted.IdleAt b) p.entries (R p)
+all_at_b b p = all_of (idle_at b) p.entries (R p)
 
 -- CHANGES -------------------------------------------------------------------------------------------------------------
 
@@ -212,24 +214,21 @@ pub record Workable (p : Place) : Type 0 where
   pub capacity : p.link.capacity ≤ max_rate
   pub rates : Rates p.entries
 
--- a sum of two, a B, a total and what is asked of an entry, likewise
-abbrev pub SumSized : Sum → Type 0
-SumSized (sum.Rate y) = Sized limit y
-SumSized sum.TooFine = 0 ≤ 0
+-- a sum or a total that is a rate of at most m, and a B, likewise
+abbrev pub TotalSized : {E : Type 0} → ℕ → Result Rate E → Type 0
+TotalSized m t = IfOk t (Sized m)
 
 abbrev pub BoundSized : Bound → Type 0
 BoundSized (bound.At b) = Sized max_rate b
 BoundSized bound.Above = 0 ≤ 0
 BoundSized bound.TooFine = 0 ≤ 0
 
-abbrev pub TotalSized : ℕ → Total → Type 0
-TotalSized c (total.Rate y) = Sized c y
-TotalSized c total.TooFine = 0 ≤ 0
-TotalSized c total.PastC = 0 ≤ 0
+-- WHAT A CLOSURE ANSWERS ----------------------------------------------------------------------------------------------
 
-abbrev pub WantedSized : Wanted → Type 0
-WantedSized (wanted.Equal m) = Sized max_rate m
-WantedSized (wanted.Other m) = Sized max_rate m
-WantedSized (wanted.AtLeast b) = BoundSized b
-WantedSized (wanted.IdleAbove b) = BoundSized b
-WantedSized (wanted.IdleAt b) = BoundSized b
+-- it may be asked of every entry whose rate is within the limits
+abbrev pub AsksRates : (Entry → Type 0) → Type 0
+AsksRates pre = (x : Entry) → Sized max_rate x.rate → pre x
+
+-- and there it answers as the test does
+abbrev pub Tests : (Entry → Bool → Type 0) → (Entry → Bool) → Type 0
+Tests post meets = (x : Entry) (b : Bool) → Sized max_rate x.rate → post x b → b ≡ meets x

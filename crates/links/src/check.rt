@@ -4,8 +4,8 @@ ghost use Rattle.fractions.specs.Fraction.{Sized, max_rate};
 ghost use Rattle.links.specs.FCheck.{check_of, checked_of, higher_of, highest_of, process_of, turn_of};
 ghost use Rattle.links.specs.Links.{Rates, Workable};
 
-use super::sums::bottleneck_rate;
-use super::{Checked, Place, Processed, Wanted, those, waiting, with_words};
+use super::sums::{above_b, at_least_b, bottleneck_rate};
+use super::{Checked, Place, Processed, is_idle, those, waiting, with_words};
 use fractions::Rate;
 
 // The higher of two rates.
@@ -21,13 +21,9 @@ fn highest(p: Place) -> Rate
     requires { Rates p.entries }
     ensures { result ≡ highest_of p }
 {
-    let mut m = Rate::zero();
-    let mut left = p.link.f;
-    while left != 0 {
-        let s = sessions::next(left);
-        let x = p.entries[s as usize];
-        m = higher(m, x.rate);
-        left = sessions::cut(left, s);
+    let mut m = Rate::ZERO;
+    for s in sessions::each(p.link.f) {
+        m = higher(m, p.entries[s as usize].rate);
     }
     m
 }
@@ -38,8 +34,8 @@ fn turned(p: Place) -> Place
     ensures { result ≡ turn_of p }
 {
     let m = highest(p);
-    let back = those(Wanted::Equal(m), p, p.link.f);
-    let rest = those(Wanted::Other(m), p, p.link.f);
+    let back = those(p, p.link.f, |x| x.rate.same(m));
+    let rest = those(p, p.link.f, |x| !x.rate.same(m));
     with_words(p, p.link.r | back, rest)
 }
 
@@ -51,7 +47,7 @@ pub fn check_f(p: Place) -> Checked
     let mut now = p;
     for k in 0..32usize {
         let b = bottleneck_rate(now);
-        let back = those(Wanted::AtLeast(b), now, now.link.f);
+        let back = those(now, now.link.f, |x| at_least_b(b, x.rate));
         if back == 0 {
             return Checked {
                 place: now,
@@ -75,7 +71,7 @@ pub fn process_new_restricted(p: Place) -> Processed
     let q = check_f(p);
     let left = q.place;
     let b = q.bound;
-    let over = those(Wanted::IdleAbove(b), left, left.link.r);
+    let over = those(left, left.link.r, |x| is_idle(x.mu) && above_b(b, x.rate));
     let next = waiting(left, over);
     Processed {
         place: next,

@@ -4,14 +4,14 @@
 mod check;
 mod sums;
 
-ghost use Rattle.std.specs.Prelude.{cond, ◌≡◌, ◌<◌};
+ghost use Rattle.std.specs.Prelude.{Bool, cond, ◌≡◌, ◌<◌};
 ghost use Rattle.fractions.specs.Fraction.{Sized, max_rate};
 ghost use Rattle.sessions.specs.Set.{put};
-ghost use Rattle.links.specs.Links.{BoundSized, Rates, WantedSized, all_at_b, holds, is_idle, meets_of, those_of, waiting_of, with_entry, with_mu, with_words};
+ghost use Rattle.links.specs.declared.NoTotal.TheVariants as no_total;
+ghost use Rattle.links.specs.Links.{AsksRates, BoundSized, Rates, Tests, all_at_b, holds, idle_at, is_idle, those_of, waiting_of, with_entry, with_mu, with_words};
 
 pub use check::{check_f, process_new_restricted};
-use fractions::Rate;
-use sums::at_least_b;
+use fractions::{Rate, TooFine};
 pub use sums::{
     above_b, at_most_b, below_b, bottleneck_rate, bound_from, equals_b, is_fine, is_past_c, more,
     sum_of_f,
@@ -40,37 +40,36 @@ pub struct Link {
     pub f: u32,
 }
 
-// A link with the entries of its 32 sessions. An entry exists where its session is in R or F.
+// A link with the entries of its 32 sessions. An entry exists where its session is in R or F. That it is `Workable` is a clause and no invariant of the
+// type: `holds`, `with_words`, `waiting` and the others that ask for no size take every Place, and so may a caller.
 #[derive(Clone, Copy)]
 pub struct Place {
     pub link: Link,
     pub entries: [Entry; 32],
 }
 
-// The sum of F's rates at a link, or that a partial sum has a denominator over the limit, or is past the capacity.
-#[derive(Clone, Copy)]
-pub enum Total {
-    Rate(Rate),
+// Why F comes to no rate: a partial sum has a denominator over the limit (01, refusal 12), or is past the capacity (refusal 14).
+#[derive(Clone, Copy, Debug, PartialEq, Eq)]
+pub enum NoTotal {
     TooFine,
     PastC,
 }
 
+impl From<TooFine> for NoTotal {
+    ghost from_gives = { λ _ r. r ≡ no_total.TooFine };
+
+    fn from(_e: TooFine) -> NoTotal {
+        NoTotal::TooFine
+    }
+}
+
 // B of a link; or, where R is empty, that it is above every rate; or that a partial sum or B has a denominator over the limit.
+// No Result<_, TooFine>: Figure 2's definitions (`process_of`, `lowered_of`) go on with a B that is too fine, and no `?` takes it out of one.
 #[derive(Clone, Copy)]
 pub enum Bound {
     At(Rate),
     Above,
     TooFine,
-}
-
-// What is asked of an entry: a rate equal to m or another, a rate of at least B, or to be idle with a rate above B or equal to it.
-#[derive(Clone, Copy)]
-pub enum Wanted {
-    Equal(Rate),
-    Other(Rate),
-    AtLeast(Bound),
-    IdleAbove(Bound),
-    IdleAt(Bound),
 }
 
 // A link that the F check leaves, with its B.
@@ -92,11 +91,7 @@ pub struct Processed {
 pub fn is_idle(m: Mu) -> bool
     ensures { result ≡ is_idle m }
 {
-    match m {
-        Mu::Idle => true,
-        Mu::WaitingProbe => false,
-        Mu::WaitingResponse => false,
-    }
+    matches!(m, Mu::Idle)
 }
 
 // Whether the link holds session s.
@@ -132,49 +127,32 @@ pub fn with_mu(p: Place, s: u32, m: Mu) -> Place
     requires { s < 32 }
     ensures { result ≡ with_mu p s m }
 {
-    let x = p.entries[s as usize];
-    let rate = x.rate;
-    with_entry(p, s, Entry { mu: m, rate: rate })
+    let mut next = p;
+    next.entries[s as usize].mu = m;
+    next
 }
 
-// Whether an entry is what is asked for.
-fn meets(asked: Wanted, x: Entry) -> bool
-    requires { WantedSized asked × Sized max_rate x.rate }
-    ensures { result ≡ meets_of asked x }
-{
-    let m = x.mu;
-    match asked {
-        Wanted::Equal(y) => x.rate.same(y),
-        Wanted::Other(y) => !x.rate.same(y),
-        Wanted::AtLeast(b) => at_least_b(b, x.rate),
-        Wanted::IdleAbove(b) => is_idle(m) && above_b(b, x.rate),
-        Wanted::IdleAt(b) => is_idle(m) && equals_b(b, x.rate),
-    }
-}
-
-// The set with session s, if it is to be put in.
-fn put_if(yes: bool, w: u32, s: u32) -> u32
-    requires { s < 32 }
-    ensures { result ≡ cond yes (put s w) w }
-{
-    if yes { sessions::put(w, s) } else { w }
-}
-
-// The members of w whose entries are what is asked for.
-pub fn those(asked: Wanted, p: Place, w: u32) -> u32
-    requires { WantedSized asked × Rates p.entries }
-    ensures { result ≡ those_of asked p.entries w }
+// The members of w whose entries are what is asked for: {s ∈ w : ..}, for each test that the answers of asked agree with.
+pub fn those<A: Fn(Entry) -> bool>(p: Place, w: u32, asked: A) -> u32
+    requires rates { Rates p.entries }
+    requires asked { AsksRates (A.pre asked) }
+    ensures { (meets : Entry → Bool) → Tests (A.post asked) meets → result ≡ those_of meets p.entries w }
 {
     let mut found = 0u32;
-    let mut left = w;
-    while left != 0 {
-        let s = sessions::next(left);
-        let x = p.entries[s as usize];
-        let yes = meets(asked, x);
-        found = put_if(yes, found, s);
-        left = sessions::cut(left, s);
+    for s in sessions::each(w) {
+        if asked(p.entries[s as usize]) {
+            found = sessions::put(found, s);
+        }
     }
     found
+}
+
+// The members of w that are idle with rate B.
+pub fn those_at_b(b: Bound, p: Place, w: u32) -> u32
+    requires { BoundSized b × Rates p.entries }
+    ensures { result ≡ those_of (idle_at b) p.entries w }
+{
+    those(p, w, |x| is_idle(x.mu) && equals_b(b, x.rate))
 }
 
 // Whether all of R is idle with rate B.
@@ -182,8 +160,7 @@ pub fn all_at_b(b: Bound, p: Place) -> bool
     requires { BoundSized b × Rates p.entries }
     ensures { result ≡ all_at_b b p }
 {
-    let w = p.link.r;
-    those(Wanted::IdleAt(b), p, w) == w
+    those_at_b(b, p, p.link.r) == p.link.r
 }
 
 // The entries, where each session of w now waits for a probe.
@@ -191,16 +168,8 @@ pub fn waiting(p: Place, w: u32) -> Place
     ensures { result ≡ waiting_of p w }
 {
     let mut next = p;
-    let mut left = w;
-    while left != 0 {
-        let s = sessions::next(left);
-        let x = next.entries[s as usize];
-        let rate = x.rate;
-        next.entries[s as usize] = Entry {
-            mu: Mu::WaitingProbe,
-            rate: rate,
-        };
-        left = sessions::cut(left, s);
+    for s in sessions::each(w) {
+        next.entries[s as usize].mu = Mu::WaitingProbe;
     }
     next
 }

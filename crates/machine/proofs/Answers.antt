@@ -1,5 +1,6 @@
 -- Each way out of the machine's calls: a table that is turned away, an input that is too long, a run; and what an answer on `settled` means.
 -- Assumes nothing.
+use Rattle.std.specs.Prelude.{Result, Ok, Err}
 use mathlib.Core.Bool.{Bool, cond, false, true}
 use mathlib.Core.List.{List}
 use mathlib.Core.Path.{◌≡◌, ap, refl, sym, ◌∙◌}
@@ -14,10 +15,10 @@ use Rattle.handed.specs.Handed.{passes14_of}
 use Rattle.handed.proofs.Passing.{means_passes, passes_means}
 use Rattle.records.specs.declared.Refusal.TheVariants as refusal
 use Rattle.records.specs.Run as records
+use Rattle.records.specs.declared.Refused.{Refused}
+use Rattle.records.specs.Refusals.{refused_at}
 use Rattle.records.proofs.Somes.{clash}
 use Rattle.machine.specs.declared.Ran.{Ran}
-use Rattle.machine.specs.declared.SettledAnswer.{SettledAnswer}
-use Rattle.machine.specs.declared.SettledAnswer.TheVariants as settled
 use Rattle.machine.specs.Machine.{Means, answer_of, machine_of, nothing_taken, ran_of, run_records_of, turned_away}
 
 -- A RUN ---------------------------------------------------------------------------------------------------------------
@@ -50,26 +51,24 @@ module _ (w s : List ℕ) (p : Bool) (is : p ≡ passes14_of w) where
 -- SETTLED -------------------------------------------------------------------------------------------------------------
 
 module _ (w : List ℕ) (p : Bool) (is : p ≡ passes14_of w) where
-  abbrev answer : SettledAnswer
-  answer = cond (settled_of w) settled.Yes settled.No
+  abbrev answer : Result Bool Refused
+  answer = cond (settled_of w) (Ok true) (Ok false)
 
-  pub question_refused : p ≡ false → (settled.Refused refusal.BadTable 0 ≡ answer_of w) × Means w (settled.Refused refusal.BadTable 0)
+  pub question_refused : p ≡ false → (Err (refused_at refusal.BadTable 0) ≡ answer_of w) × Means w (Err (refused_at refusal.BadTable 0))
   unfolding answer_of
   question_refused h = (
-    sym (chosen (passes14_of w) false answer (settled.Refused refusal.BadTable 0) (sym is ∙ h)),
+    sym (chosen (passes14_of w) false answer (Err (refused_at refusal.BadTable 0)) (sym is ∙ h)),
     (refl, refl, λ g. clash (passes14_of w) (means_passes w g) (sym is ∙ h)),
   )
 
-  module _ (h : p ≡ true) (q : Bool) (is' : q ≡ settled_of w) where
+  module _ (h : p ≡ true) where
     asked : answer_of w ≡ answer
     unfolding answer_of
-    asked = chosen (passes14_of w) true answer (settled.Refused refusal.BadTable 0) (sym is ∙ h)
+    asked = chosen (passes14_of w) true answer (Err (refused_at refusal.BadTable 0)) (sym is ∙ h)
 
-    pub settled_yes : q ≡ true → (settled.Yes ≡ answer_of w) × Means w settled.Yes
-    settled_yes k = (sym (asked ∙ chosen (settled_of w) true settled.Yes settled.No (sym is' ∙ k)), (passes_means w (sym is ∙ h), settled_means w (sym is' ∙ k)))
-
-    pub settled_no : q ≡ false → (settled.No ≡ answer_of w) × Means w settled.No
-    settled_no k = (
-      sym (asked ∙ chosen (settled_of w) false settled.Yes settled.No (sym is' ∙ k)),
-      (passes_means w (sym is ∙ h), λ g. clash (settled_of w) (means_settled w g) (sym is' ∙ k)),
+    pub answered : (q : Bool) → q ≡ settled_of w → (Ok q ≡ answer_of w) × Means w (Ok q)
+    answered true k = (sym (asked ∙ chosen (settled_of w) true (Ok true) (Ok false) (sym k)), (passes_means w (sym is ∙ h), settled_means w (sym k)))
+    answered false k = (
+      sym (asked ∙ chosen (settled_of w) false (Ok true) (Ok false) (sym k)),
+      (passes_means w (sym is ∙ h), λ g. clash (settled_of w) (means_settled w g) (sym k)),
     )

@@ -7,29 +7,21 @@ ghost use Rattle.records.specs.Run.{said_of};
 ghost use Rattle.table.specs.Words.{count_of, empty_words};
 ghost use Rattle.machine.specs.Machine.{Means, answer_of, machine_of, nothing_taken, ran_of, run_records_of, session_of, session_report_of, step_of};
 
-use ends::Told;
-use records::{Call, End, Read, Refusal, Verdict};
+use fractions::Rate;
+use records::{Call, Refusal, Refused};
 
 // How many records a run took, and how it ended.
 #[derive(Clone, Copy)]
 pub struct Ran {
     pub taken: usize,
-    pub end: End,
+    pub end: Result<(), Refused>,
 }
 
-// Whether a table is settled, or that it fails the test of refusal 14.
-#[derive(Clone, Copy)]
-pub enum SettledAnswer {
-    Yes,
-    No,
-    Refused { refusal: Refusal, place: usize },
-}
-
-// A session as its owner sees it: not active, or active with the rate last told.
+// A session as its owner sees it: not active, or active with the rate last told. Kept an enum: as an Option around what was told, the cases would have no names.
 #[derive(Clone, Copy)]
 pub enum Session {
     NotActive,
-    Active(Told),
+    Active(Option<Rate>),
 }
 
 // Makes the lent table the empty one.
@@ -63,15 +55,12 @@ pub fn session_at(t: &[u64; 9153], s: u32) -> Session
 }
 
 // The record at a place, and what it does.
-fn step(t: &mut [u64; 9153], s: &[u8], at: usize) -> Verdict
+fn step(t: &mut [u64; 9153], s: &[u8], at: usize) -> Result<(), Refusal>
     requires { at < length s.now }
     ensures { ended result t.new ≡ step_of s.now t.old at }
 {
-    let read = records::read_at(Call::Machine, s, at);
-    match read {
-        Read::Record(x) => events::event(t, s, x),
-        Read::Refused(r) => Verdict::Refused(r),
-    }
+    let x = records::read_at(Call::Machine, s, at)?;
+    events::event(t, s, x)
 }
 
 // All records of an input, up to the first that is refused.
@@ -83,24 +72,24 @@ fn run_records(t: &mut [u64; 9153], s: &[u8]) -> Ran
     while at < s.len() {
         let v = step(t, s, at);
         match v {
-            Verdict::Taken => {
+            Ok(()) => {
                 at = at + records::size_at(s, at);
                 n = n + 1;
             }
-            Verdict::Refused(r) => {
+            Err(r) => {
                 return Ran {
                     taken: n,
-                    end: End::Refused {
+                    end: Err(Refused {
                         refusal: r,
                         place: at,
-                    },
+                    }),
                 };
             }
         }
     }
     Ran {
         taken: n,
-        end: End::Finished,
+        end: Ok(()),
     }
 }
 
@@ -110,10 +99,10 @@ fn turned_away(refusal: Refusal) -> Ran
 {
     Ran {
         taken: 0,
-        end: End::Refused {
+        end: Err(Refused {
             refusal: refusal,
             place: 0,
-        },
+        }),
     }
 }
 
@@ -132,19 +121,16 @@ pub fn run(t: &mut [u64; 9153], s: &[u8]) -> Ran
     run_records(t, s)
 }
 
-// Whether a table that is handed in is settled.
-pub fn settled(t: &[u64; 9153]) -> SettledAnswer
+// Whether a table that is handed in is settled: 14, where it fails the test.
+pub fn settled(t: &[u64; 9153]) -> Result<bool, Refused>
     ensures exact { result ≡ answer_of t.now }
     ensures conditions { Means t.now result }
 {
     if !handed::passes_14(t) {
-        return SettledAnswer::Refused {
+        return Err(Refused {
             refusal: Refusal::BadTable,
             place: 0,
-        };
+        });
     }
-    if conditions::is_settled(t) {
-        return SettledAnswer::Yes;
-    }
-    SettledAnswer::No
+    Ok(conditions::is_settled(t))
 }

@@ -1,5 +1,6 @@
 -- What the call comes to: its cases in the order of their tests, and what each answer means.
 -- Assumes nothing.
+use Rattle.std.specs.Prelude.{Result, Ok}
 use mathlib.Core.Bool.{Bool, false, true}
 use mathlib.Core.List.{List, ◌++◌}
 use mathlib.Core.Logic.{◌⊎◌, inl, inr}
@@ -16,10 +17,9 @@ use Rattle.handed.specs.Handed.{passes14_of}
 use Rattle.handed.specs.Passes.{Passes}
 use Rattle.handed.proofs.Passing.{means_passes, passes_means}
 use Rattle.records.specs.declared.Refusal.TheVariants as refusal
+use Rattle.records.specs.declared.Refused.{Refused}
 use Rattle.records.proofs.Somes.{clash}
 use Rattle.table.proofs.InRange.{capacity_most, source_in_range_lem}
-use Rattle.writing.specs.declared.Wrote.{Wrote}
-use Rattle.writing.specs.declared.Wrote.TheVariants as wrote
 use Rattle.writing.specs.Sets.{SameSet}
 use Rattle.writing.specs.Writing.{records_of}
 use Rattle.writing.specs.Written.{Written, nothing_written, written, written_of}
@@ -101,12 +101,12 @@ module _ (w out : List ℕ) where
       go true e = subst Told (sym (good_table w out e)) (told (passes_means w e) (order (length s) (length out)))
 
   -- an answer and a slice that are the call's
-  pub answer_means : (a : Wrote) (after : List ℕ) → a ≡ (present_of w out).answer → after ≡ (present_of w out).bytes → Means w out after a
+  pub answer_means : (a : Result ℕ Refused) (after : List ℕ) → a ≡ (present_of w out).answer → after ≡ (present_of w out).bytes → Means w out after a
   answer_means a after p q =
-      subst (λ (l : List ℕ). Means w out l a) (sym q) (subst (λ (x : Wrote). Means w out (present_of w out).bytes x) (sym p) present_means)
+      subst (λ (l : List ℕ). Means w out l a) (sym q) (subst (λ (x : Result ℕ Refused). Means w out (present_of w out).bytes x) (sym p) present_means)
 
 -- never more than 992 bytes
-pub written_most : (w out after : List ℕ) (a : Wrote) (n : ℕ) → a ≡ wrote.Bytes n → Means w out after a → n ≤ 992
+pub written_most : (w out after : List ℕ) (a : Result ℕ Refused) (n : ℕ) → a ≡ Ok n → Means w out after a → n ≤ 992
 written_most w out after a n e m =
     let p : Present w out after n = subst (Means w out after) e m in
     omega (arith, p.count, output_most (declarations_in w))

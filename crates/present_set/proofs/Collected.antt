@@ -1,52 +1,43 @@
--- An array that is filled place by place, and a word to which the numbers that pass a test are put.
+-- Values by their number, and a word to which the numbers that pass a test are put.
 -- Assumes nothing.
 use mathlib.Core.Bool.{Bool, cond}
-use mathlib.Core.List.{List, ◌++◌, append-nil}
-use mathlib.Core.Path.{◌≡◌, ap, refl, ◌∙◌}
-use Prim.Native.Nat.{ℕ, ◌+◌, ◌<◌, ◌≤◌}
+use mathlib.Core.List.{List, [], ◌∷◌, ◌++◌, map, map-id}
+use mathlib.Core.Path.{◌≡◌, ap, refl, sym, ◌∙◌}
+use Prim.Native.Nat.{ℕ, zero, suc, ◌+◌}
 use native.Mathlib.Numerals.{add-one}
 use native.Mathlib.Omega.{arith}
-use lib.ListN.{drop_of_length-le, length, length-replicate, replicate, set}
-use lib.Seq.{sets, sets-eq}
+use Rattle.std.specs.List.{fold, range_with_len}
+use Rattle.std.proofs.lemmas.List.FromFn.{map-range_with_len_more}
+use Rattle.std.proofs.lemmas.List.Sums.{fold-append}
 use Rattle.fairness.specs.Figure1.{values}
-use Rattle.fairness.proofs.Running.{values_long}
 use Rattle.sessions.specs.Set.{put}
-use Rattle.writing.proofs.Laying.{sets_next}
 use Rattle.present_set.specs.Held.{word_of}
 
--- its first k places are f's
-pub record Filled (n : ℕ) (f : ℕ → ℕ) (k : ℕ) (all : List ℕ) : Type 0 where
-  pub most : k ≤ n
-  pub is : all ≡ sets (replicate n 0) 0 (values 0 k f)
+pub values_mapped : {A : Type 0} (i n : ℕ) (f : ℕ → A) → map f (range_with_len i n) ≡ values i n f
+unfolding values
+values_mapped i zero f = refl
+values_mapped {A} i (suc n) f = ap (λ (l : List A). f i ∷ l) (ap (λ (k : ℕ). map f (range_with_len k n)) (add-one i) ∙ values_mapped (suc i) n f)
 
-module _ (n : ℕ) (f : ℕ → ℕ) where
-  pub filled_none : Filled n f 0 (replicate n 0)
-  unfolding values
-  filled_none = record { most = omega arith; is = refl }
+module _ (test : ℕ → Bool) where
+  -- v has those of the numbers es that pass
+  abbrev pub Put : List ℕ → ℕ → Type 0
+  Put es v = v ≡ fold (λ v e. cond (test e) (put e v) v) 0 es
 
-  pub filled_next : (k : ℕ) (all : List ℕ) (v : ℕ) → k < n → v ≡ f k → Filled n f k all → Filled n f (k + 1) (set all k v)
-  filled_next k all v h e r =
-      record {
-        most = omega arith;
-        is =
-            ap (λ (l : List ℕ). set l k v) r.is
-            ∙ ap (λ (y : ℕ). set (sets (replicate n 0) 0 (values 0 k f)) k y) e
-            ∙ ap (λ (i : ℕ). set (sets (replicate n 0) 0 (values 0 k f)) i (f k)) {x = k} {y = 0 + k} (omega arith)
-            ∙ sets_next (replicate n 0) 0 k f;
-      }
+  pub put_next : (es : List ℕ) (e v n : ℕ) → n ≡ cond (test e) (put e v) v → Put es v → Put (es ++ (e ∷ [])) n
+  put_next es e v n q h =
+      q ∙ ap (λ (k : ℕ). cond (test e) (put e k) k) h ∙ sym (fold-append (λ v e. cond (test e) (put e v) v) 0 es (e ∷ []))
 
-  pub filled_all : (k : ℕ) (all : List ℕ) → n ≤ k → Filled n f k all → all ≡ values 0 n f
-  filled_all k all h r =
-      let whole : k ≡ n = omega (arith, r.most) in
-      let long : length (values 0 n f) ≡ n = values_long 0 n f in
-      let blank : length (replicate {A = ℕ} n 0) ≡ n = length-replicate n 0 in
-      r.is
-      ∙ ap (λ (i : ℕ). sets (replicate n 0) 0 (values 0 i f)) whole
-      ∙ sets-eq (values 0 n f) (replicate n 0) 0 (omega (arith, long, blank))
-      ∙ ap (λ (l : List ℕ). values 0 n f ++ l) (drop_of_length-le (replicate n 0) {i = 0 + length (values 0 n f)} (omega (arith, long, blank)))
-      ∙ append-nil (values 0 n f)
+  below : (n : ℕ) → fold (λ v e. cond (test e) (put e v) v) 0 (range_with_len 0 n) ≡ word_of n test
+  unfolding word_of
+  below zero = refl
+  below (suc n) =
+      let h : ℕ → ℕ → ℕ = λ v e. cond (test e) (put e v) v in
+      let r : range_with_len 0 (suc n) ≡ range_with_len 0 n ++ (n ∷ []) =
+      sym (map-id (range_with_len 0 (suc n)))
+      ∙ ap (λ (k : ℕ). map (λ (x : ℕ). x) (range_with_len 0 k)) (sym (add-one n))
+      ∙ map-range_with_len_more (λ (x : ℕ). x) 0 n n (omega arith)
+      ∙ ap (λ (l : List ℕ). l ++ (n ∷ [])) (map-id (range_with_len 0 n)) in
+      ap (fold h 0) r ∙ fold-append h 0 (range_with_len 0 n) (n ∷ []) ∙ ap (λ (k : ℕ). cond (test n) (put n k) k) (below n)
 
--- one number more
-pub word_next : (test : ℕ → Bool) (k : ℕ) → cond (test k) (put k (word_of k test)) (word_of k test) ≡ word_of (k + 1) test
-unfolding word_of
-word_next test k = rw (add-one k) refl
+  pub put_all : (n v : ℕ) → Put (range_with_len 0 n) v → v ≡ word_of n test
+  put_all n v h = h ∙ below n

@@ -1,6 +1,7 @@
 -- What a table that passes the test of refusal 14 holds can be declared: so there is an input that declares its links and active sessions, the records
 -- that are written of them.
 -- Assumes nothing.
+use Rattle.std.specs.Prelude.{Ok}
 use mathlib.Core.Bool.{false, true}
 use mathlib.Core.List.{List}
 use mathlib.Core.Logic.{◌⊎◌, inl, inr}
@@ -12,7 +13,6 @@ use lib.Dec.{ltb}
 use lib.ListN.{get_or}
 use Rattle.sessions.specs.Set.{has, has_of}
 use Rattle.sessions.proofs.Members.{has_or_not, in_is, is_in, out_is}
-use Rattle.records.specs.declared.End.TheVariants as end
 use Rattle.records.specs.Format.{path_ok, rate_ok}
 use Rattle.records.proofs.PathBytes.{path_passes_lem}
 use Rattle.records.proofs.Rates.{rate_passes}
@@ -104,7 +104,7 @@ module _ (w : List ℕ) (ok : Passes w) where
       }
 
   -- some input is accepted and declares the table's links and active sessions: the records of what the table holds
-  pub table_written : ((declarations_of (records_of (declarations_in w))).end ≡ end.Finished) × Declares (declarations_of (records_of (declarations_in w))).declared w
+  pub table_written : ((declarations_of (records_of (declarations_in w))).end ≡ Ok tt) × Declares (declarations_of (records_of (declarations_in w))).declared w
   table_written = let b = read_back d table_declarable in (b.0, again b.1)
     where
       z : Declared

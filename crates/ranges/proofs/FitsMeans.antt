@@ -1,5 +1,6 @@
 -- 01, refusal 14: where a test passes, what is read there is what the words say, with rates in lowest terms.
 -- Assumes nothing.
+use Rattle.std.specs.Prelude.{None, Option, Some}
 use mathlib.Core.Bool.{Bool, ◌&&◌, cond, not, true}
 use mathlib.Core.List.{List}
 use mathlib.Core.Path.{◌≡◌, ap, refl, subst, sym, ◌∙◌}
@@ -16,20 +17,19 @@ use Rattle.tasks.specs.declared.Kind.{Kind}
 use Rattle.tasks.specs.declared.Kind.TheVariants as kind
 use Rattle.tasks.specs.declared.Packet.{Packet}
 use Rattle.ends.specs.declared.Source.{Source}
-use Rattle.ends.specs.declared.Told.{Told}
-use Rattle.ends.specs.declared.Told.TheVariants as told
 use Rattle.ranges.specs.Ranges.{count_fits, entry_fits, flags_fit, kind_fits, link_fits, numbers_fit, packet_fits, path_fits, rated_fits, rates_fit, source_fits, standing_fits, words_fit}
 use Rattle.table.specs.Values.{EtaInRange, KindInRange, KindWithin, PacketInRange, PacketWithin, SourceInRange, SourceWithin, ToldInRange, ToldWithin}
 use Rattle.table.specs.Words.{block_at, count_of, entry_of, hops_of, kind_of, link_of, packet_from, packet_of, row_of, source_from, source_of}
 use Rattle.table.specs.Codes.{eta_of, told_of}
 use Rattle.links.specs.Links.{no_entry}
 use Rattle.table.proofs.InRange.{eta_in_range, field_same, packet_in_range, row_entry, source_in_range_lem}
+use Rattle.fractions.specs.declared.Rate.{Rate}
 
 -- WITHIN IS IN RANGE --------------------------------------------------------------------------------------------------
 
-pub told_within : (x : Told) → ToldWithin x → ToldInRange x
-told_within told.Never h = tt
-told_within (told.Rate x) h = within_sized h
+pub told_within : (x : Option Rate) → ToldWithin x → ToldInRange x
+told_within None h = tt
+told_within (Some x) h = within_sized h
 
 pub source_within : {z : Source} → SourceWithin z → SourceInRange z
 source_within {z} h =
@@ -90,8 +90,8 @@ told_fits code n d =
     cases
     ToldWithin
     (eqb code 1)
-    (told.Rate (kept_of n d))
-    told.Never
+    (Some (kept_of n d))
+    None
     (λ e. kept_within n d (ap (λ (t : Bool). cond t (is_rate_of (frac n d)) true) (sym e) ∙ h))
     (λ e. tt)
 

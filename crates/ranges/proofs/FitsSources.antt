@@ -1,5 +1,6 @@
 -- 01, refusal 14: the tests of sources and paths after a write: they read the same words, or values that fit were written.
 -- Assumes nothing.
+use Rattle.std.specs.Prelude.{None, Option, Some}
 use mathlib.Core.Bool.{Bool, ◌&&◌, cond, false, true}
 use mathlib.Core.List.{List, [], ◌∷◌}
 use mathlib.Core.Logic.{inl, inr}
@@ -14,8 +15,6 @@ use Rattle.fractions.specs.Fraction.{frac, is_rate_of, max_rate}
 use Rattle.fractions.proofs.Cases.{and_both}
 use Rattle.fractions.proofs.Ranges.{within_is_rate}
 use Rattle.ends.specs.declared.Source.{Source}
-use Rattle.ends.specs.declared.Told.{Told}
-use Rattle.ends.specs.declared.Told.TheVariants as told
 use Rattle.ranges.specs.Ranges.{flags_fit, numbers_fit, path_fits, rates_fit, source_fits, standing_fits, stops_fit}
 use Rattle.table.specs.Values.{SourceWithin, ToldWithin}
 use Rattle.table.specs.Words.{block_at, head_words, put_block, put_hops, put_path, put_rates, put_source}
@@ -24,6 +23,7 @@ use Rattle.table.proofs.Codes.{bit_most, mu_most, told_most}
 use Rattle.table.proofs.Places.{length_put_hops, length_put_path, put_hops_off, put_path_off, put_rates_off, put_source_off}
 use Rattle.table.proofs.ReadBack.{rates_back}
 use Rattle.table.proofs.Store.{Agree, block_agree, block_back, block_word, eight, get_d_block, length_put_block}
+use Rattle.fractions.specs.declared.Rate.{Rate}
 
 -- THE SAME WORDS ------------------------------------------------------------------------------------------------------
 
@@ -70,11 +70,11 @@ source_fits_agree v w s h =
 
 -- WRITTEN -------------------------------------------------------------------------------------------------------------
 
-told_test : (x : Told)
+told_test : (x : Option Rate)
     → ToldWithin x
     → cond (eqb (told_code x) 1) (is_rate_of (frac (told_rate x).num (told_rate x).den)) true ≡ true
-told_test told.Never h = refl
-told_test (told.Rate x) h = within_is_rate h
+told_test None h = refl
+told_test (Some x) h = within_is_rate h
 
 flags_fit_back : (z : Source) → flags_fit (eight (head_words z)) ≡ true
 unfolding flags_fit head_words

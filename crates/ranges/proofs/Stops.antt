@@ -1,31 +1,36 @@
 -- A path whose stops are tested one after the other.
 -- Assumes nothing.
-use mathlib.Core.Bool.{false, true}
+use mathlib.Core.Bool.{Bool, ◌&&◌}
 use mathlib.Core.List.{List}
-use mathlib.Core.Path.{◌≡◌}
-use Prim.Native.Nat.{ℕ, suc, ◌+◌, ◌-◌, ◌*◌, ◌≤◌, ◌<◌}
-use borrow.Author.Tests.{le-leb, lt-leb}
-use lib.ListN.{get_or}
+use mathlib.Core.Path.{◌≡◌, ap, refl, ◌∙◌}
+use Prim.Native.Nat.{ℕ, zero, suc, ◌+◌, ◌*◌, ◌≤◌, ◌<◌}
 use native.Mathlib.Omega.{arith}
+use lib.Dec.{leb}
+use lib.ListN.{drop, get_or, length, take}
+use lib.Seq.{drop-cons}
+use Rattle.std.specs.List.{list_all}
 use Rattle.ranges.specs.Ranges.{stops_fit}
 
-pub stops_on : (w : List ℕ) (s n i : ℕ)
-    → i < n
-    → get_or w (6336 + s * 24 + 16 + i) 0 ≤ 63
-    → stops_fit (n - i) w s i ≡ stops_fit (n - (i + 1)) w s (i + 1)
+stops_tested : (k : ℕ) (w : List ℕ) (s i : ℕ)
+    → 6336 + s * 24 + 16 + i + k ≤ length w
+    → list_all (λ (e : ℕ). leb e 63) (take k (drop (6336 + s * 24 + 16 + i) w)) ≡ stops_fit k w s i
 unfolding stops_fit
-stops_on w s n i l q =
-    let p : n - i ≡ suc (n - (i + 1)) = omega arith in
-    rw (p, le-leb (get_or w (6336 + s * 24 + 16 + i) 0) 63 q)
+stops_tested zero w s i h = refl
+stops_tested (suc k) w s i h =
+    let a = 6336 + s * 24 + 16 + i in
+    let p : suc a ≡ 6336 + s * 24 + 16 + (i + 1) = omega arith in
+    let l : a < length w = omega arith in
+    ap (λ (x : List ℕ). list_all (λ (e : ℕ). leb e 63) (take (suc k) x)) (drop-cons w a 0 l)
+    ∙ ap (λ (b : Bool). leb (get_or w a 0) 63 && b)
+    (ap (λ (j : ℕ). list_all (λ (e : ℕ). leb e 63) (take k (drop j w))) p ∙ stops_tested k w s (i + 1) (omega arith))
 
-pub stops_out : (w : List ℕ) (s n i : ℕ) → i < n → 63 < get_or w (6336 + s * 24 + 16 + i) 0 → stops_fit (n - i) w s i ≡ false
-unfolding stops_fit
-stops_out w s n i l q =
-    let p : n - i ≡ suc (n - (i + 1)) = omega arith in
-    rw (p, lt-leb (get_or w (6336 + s * 24 + 16 + i) 0) 63 q)
-
-pub stops_end : (w : List ℕ) (s n i : ℕ) → n ≤ i → stops_fit (n - i) w s i ≡ true
-unfolding stops_fit
-stops_end w s n i l =
-    let p : n - i ≡ 0 = omega arith in
-    rw p
+-- the n links of a path, of which k is the number
+pub path_tested : (n k : ℕ) (w : List ℕ) (s : ℕ)
+    → k ≡ n
+    → 6336 + s * 24 + 16 + n ≤ length w
+    → list_all (λ (e : ℕ). leb e 63) (take k (drop (6336 + s * 24 + 16) w)) ≡ stops_fit n w s 0
+path_tested n k w s e h =
+    let p : 6336 + s * 24 + 16 ≡ 6336 + s * 24 + 16 + 0 = omega arith in
+    ap (λ (j : ℕ). list_all (λ (e : ℕ). leb e 63) (take j (drop (6336 + s * 24 + 16) w))) e
+    ∙ ap (λ (a : ℕ). list_all (λ (e : ℕ). leb e 63) (take n (drop a w))) p
+    ∙ stops_tested n w s 0 (omega arith)

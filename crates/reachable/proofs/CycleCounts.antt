@@ -1,5 +1,6 @@
 -- How many packets of a list are of a session's probe cycle: lists put together, one taken out, and what a task sends.
 -- Assumes nothing.
+use Rattle.std.specs.Prelude.{None, Option, Some}
 use mathlib.Core.Bool.{Bool, false, true, ◌&&◌}
 use mathlib.Core.List.{List, [], ◌∷◌, ◌++◌}
 use mathlib.Core.Path.{◌≡◌, ap, refl}
@@ -10,8 +11,6 @@ use lib.Dec.{eqb}
 use Rattle.soundness.specs.ProbeCycle.{in_cycle, sends_cycle}
 use Rattle.table.specs.Codes.{bit_of}
 use Rattle.tasks.specs.declared.Kind.{Kind}
-use Rattle.tasks.specs.declared.Onward.{Onward}
-use Rattle.tasks.specs.declared.Onward.TheVariants as onward
 use Rattle.tasks.specs.declared.Packet.{Packet}
 use Rattle.reachable.specs.Cycle.{cycle_of, cycles_of}
 use Rattle.reachable.specs.Invariant.{Every, also, none}
@@ -76,26 +75,26 @@ counted (q ∷ l) =
 -- WHAT GOES ON --------------------------------------------------------------------------------------------------------
 
 module _ (s r h : ℕ) where
-  pub onward_most : (o : Onward) → cycles_of s (onward_to r h o) ≤ 1
+  pub onward_most : (o : Option Kind) → cycles_of s (onward_to r h o) ≤ 1
   unfolding cycles_of
-  onward_most onward.Nothing = omega arith
-  onward_most (onward.Send j) = omega (arith, cycle_most s r j)
+  onward_most None = omega arith
+  onward_most (Some j) = omega (arith, cycle_most s r j)
 
-  pub onward_other : (o : Onward) → (r ≡ s → ⊥) → cycles_of s (onward_to r h o) ≡ 0
+  pub onward_other : (o : Option Kind) → (r ≡ s → ⊥) → cycles_of s (onward_to r h o) ≡ 0
   unfolding cycles_of
-  onward_other onward.Nothing n = refl
-  onward_other (onward.Send j) n = omega (arith, cycle_other s r j n)
+  onward_other None n = refl
+  onward_other (Some j) n = omega (arith, cycle_other s r j n)
 
-  pub onward_none : (o : Onward) → sends_cycle o ≡ false → cycles_of s (onward_to r h o) ≡ 0
+  pub onward_none : (o : Option Kind) → sends_cycle o ≡ false → cycles_of s (onward_to r h o) ≡ 0
   unfolding cycles_of
-  onward_none onward.Nothing t = refl
-  onward_none (onward.Send j) t = omega (arith, cycle_none s r j t)
+  onward_none None t = refl
+  onward_none (Some j) t = omega (arith, cycle_none s r j t)
 
   -- in place of a packet of kind k
-  pub onward_for : (k : Kind) (o : Onward) → (sends_cycle o ≡ true → in_cycle k ≡ true) → cycles_of s (onward_to r h o) ≤ cycle_of s r k
+  pub onward_for : (k : Kind) (o : Option Kind) → (sends_cycle o ≡ true → in_cycle k ≡ true) → cycles_of s (onward_to r h o) ≤ cycle_of s r k
   unfolding cycles_of
-  onward_for k onward.Nothing f = omega arith
-  onward_for k (onward.Send j) f = go (in_cycle j) refl
+  onward_for k None f = omega arith
+  onward_for k (Some j) f = go (in_cycle j) refl
     where
       go : (b : Bool) → in_cycle j ≡ b → cycle_of s r j + 0 ≤ cycle_of s r k
       go true t = rw (t, f t) (omega arith)

@@ -1,5 +1,6 @@
 -- A delivery at a source or at a destination keeps the law of probe cycles, and so does every delivery.
 -- Assumes nothing.
+use Rattle.std.specs.Prelude.{None, Option, Some}
 use mathlib.Core.Bool.{true}
 use mathlib.Core.List.{List}
 use mathlib.Core.Path.{◌≡◌, subst, sym}
@@ -14,8 +15,6 @@ use Rattle.soundness.specs.LinkDid.{GoesOn, is_join}
 use Rattle.soundness.specs.ProbeCycle.{Waiting, in_cycle, sends_cycle}
 use Rattle.soundness.specs.Sound.{Held}
 use Rattle.table.specs.Words.{count_of, hops_of, packet_of, source_of}
-use Rattle.tasks.specs.declared.Onward.{Onward}
-use Rattle.tasks.specs.declared.Onward.TheVariants as onward
 use Rattle.tasks.specs.declared.Packet.{Packet}
 use Rattle.reachable.specs.Cycle.{Awaited, Cycle}
 use Rattle.reachable.specs.Invariant.{Every, Inv, PacketOk, also, none}
@@ -30,6 +29,7 @@ use Rattle.reachable.proofs.Kept.{hop_same}
 use Rattle.reachable.proofs.Sends.{onward_to}
 use Rattle.reachable.proofs.SourceCycles.{destination_for_cycle, source_cycle}
 use Rattle.reachable.proofs.SourceRules.{destination_done, up_kind}
+use Rattle.tasks.specs.declared.Kind.{Kind}
 
 module _ (w : List ℕ) (j : ℕ) (i : Inv w) (c : Cycle w) (h : j < count_of w) (v : List ℕ) where
   abbrev p : Packet
@@ -54,9 +54,9 @@ module _ (w : List ℕ) (j : ℕ) (i : Inv w) (c : Cycle w) (h : j < count_of w)
 
   -- what the destination sends goes up, and all links that were behind p still are behind it
   module _ (far : hops_of w s < p.hop) (a : EndAfter w p others v) where
-    end_awaited : (o : Onward) → GoesOn up_kind o → (sends_cycle o ≡ true → in_cycle p.kind ≡ true) → Every (Awaited v) (onward_to s p.hop o)
-    end_awaited onward.Nothing on for = none
-    end_awaited (onward.Send k) on for =
+    end_awaited : (o : Option Kind) → GoesOn up_kind o → (sends_cycle o ≡ true → in_cycle p.kind ≡ true) → Every (Awaited v) (onward_to s p.hop o)
+    end_awaited None on for = none
+    end_awaited (Some k) on for =
         also {q = sent_from s p.hop k}
         (record {
           new = λ t. absurd (clash (is_join k) t on.join);

@@ -1,5 +1,6 @@
 -- A delivery at a link keeps the law of probe cycles.
 -- Assumes nothing.
+use Rattle.std.specs.Prelude.{None, Option, Some}
 use mathlib.Core.Bool.{Bool, false, true}
 use mathlib.Core.List.{List, [], ◌∷◌}
 use mathlib.Core.Logic.{◌⊎◌, inl, inr}
@@ -19,8 +20,6 @@ use Rattle.tasks.specs.declared.Burst.{Burst}
 use Rattle.tasks.specs.declared.Burst.TheVariants as burst
 use Rattle.tasks.specs.declared.Did.{Did}
 use Rattle.tasks.specs.declared.Kind.{Kind}
-use Rattle.tasks.specs.declared.Onward.{Onward}
-use Rattle.tasks.specs.declared.Onward.TheVariants as onward
 use Rattle.tasks.specs.declared.Packet.{Packet}
 use Rattle.tasks.specs.Packets.{goes_down}
 use Rattle.reachable.specs.Cycle.{Awaited, Cycle, cycles_of, front_of}
@@ -123,7 +122,7 @@ module _ (w : List ℕ) (j : ℕ) (i : Safe w) (c : Cycle w) (h : j < count_of w
         before (yes q) = absurd (m (same_hop w s e f (omega (arith, at, low)) (q ∙ sym at)))
         before (no k) = omega (arith, same f, n, k, hop_front p)
 
-  module _ (k : Kind) (on : GoesOn p.kind (onward.Send k)) (for : in_cycle k ≡ true → in_cycle p.kind ≡ true)
+  module _ (k : Kind) (on : GoesOn p.kind (Some k)) (for : in_cycle k ≡ true → in_cycle p.kind ≡ true)
       (here : in_cycle k ≡ true → goes_down p.kind ≡ true → Waiting d.place s) where
     abbrev q : Packet
     q = sent_from s p.hop k
@@ -147,11 +146,11 @@ module _ (w : List ℕ) (j : ℕ) (i : Safe w) (c : Cycle w) (h : j < count_of w
     on_awaited : Awaited v q
     on_awaited = record { new = on_new; waits = λ t f l u n. on_waits t (goes_down k) refl f l u n (ℕ_discrete f e) }
 
-  onward_awaited : (o : Onward) → GoesOn p.kind o → (sends_cycle o ≡ true → in_cycle p.kind ≡ true)
+  onward_awaited : (o : Option Kind) → GoesOn p.kind o → (sends_cycle o ≡ true → in_cycle p.kind ≡ true)
       → (sends_cycle o ≡ true → goes_down p.kind ≡ true → Waiting d.place s)
       → Every (Awaited v) (onward_to s p.hop o)
-  onward_awaited onward.Nothing on for here = none
-  onward_awaited (onward.Send k) on for here = also (on_awaited k on for here) none
+  onward_awaited None on for here = none
+  onward_awaited (Some k) on for here = also (on_awaited k on for here) none
 
   for_cycle : sends_cycle d.on ≡ true → in_cycle p.kind ≡ true
   for_cycle t = sends_for_cycle e s p.kind (place_of w e) t

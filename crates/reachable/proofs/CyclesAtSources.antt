@@ -1,5 +1,6 @@
 -- A source that is written, and sends, keeps the law of probe cycles: where it asks, no packet of its session's probe cycle was left.
 -- Assumes nothing.
+use Rattle.std.specs.Prelude.{None, Option, Some}
 use mathlib.Core.Bool.{Bool, cond, false, true}
 use mathlib.Core.List.{List}
 use mathlib.Core.Logic.{inl, inr}
@@ -18,8 +19,6 @@ use Rattle.soundness.specs.ProbeCycle.{in_cycle, is_response, sends_cycle}
 use Rattle.soundness.specs.Sound.{Held}
 use Rattle.table.specs.Words.{packets_of, source_of}
 use Rattle.tasks.specs.declared.Kind.{Kind}
-use Rattle.tasks.specs.declared.Onward.{Onward}
-use Rattle.tasks.specs.declared.Onward.TheVariants as onward
 use Rattle.tasks.specs.declared.Packet.{Packet}
 use Rattle.tasks.specs.Packets.{goes_down}
 use Rattle.reachable.specs.Cycle.{Awaited, Cycle, cycles_of, front_of}
@@ -31,9 +30,9 @@ use Rattle.reachable.proofs.Sends.{onward_to}
 use Rattle.reachable.proofs.SourceCycles.{SourceCycle, answered, asks, sends_join, stays}
 use Rattle.reachable.proofs.SourceWrites.{Written}
 
-no_join : (o : Onward) → sends_cycle o ≡ false → sends_join o ≡ false
-no_join onward.Nothing t = refl
-no_join (onward.Send k) t = not_so (is_join k) (λ j. clash (in_cycle k) (join_in_cycle k j) t)
+no_join : (o : Option Kind) → sends_cycle o ≡ false → sends_join o ≡ false
+no_join None t = refl
+no_join (Some k) t = not_so (is_join k) (λ j. clash (in_cycle k) (join_in_cycle k j) t)
 
 -- a packet that a source sends has no link behind it
 front_source : (s : ℕ) (k : Kind) → front_of (sent_from s 0 k) ≤ 1
@@ -88,9 +87,9 @@ module _ (w : List ℕ) (i : Inv w) (c : Cycle w) (s : ℕ) (ls : s < 32) (k : K
   asks_no_join (answered u n) = no_join d.on n
 
   -- an entry is at hop 1 or behind
-  sent_awaited : (o : Onward) → sends_join o ≡ false → Every (Awaited v) (onward_to s 0 o)
-  sent_awaited onward.Nothing n = none
-  sent_awaited (onward.Send j) n =
+  sent_awaited : (o : Option Kind) → sends_join o ≡ false → Every (Awaited v) (onward_to s 0 o)
+  sent_awaited None n = none
+  sent_awaited (Some j) n =
       also {q = sent_from s 0 j}
       (record {
         new = λ t. absurd (clash (is_join j) t n);

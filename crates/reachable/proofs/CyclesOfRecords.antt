@@ -1,5 +1,6 @@
 -- A join, a leave, a change of a maximum and the declaration of a link keep the law of probe cycles, and the empty table has it.
 -- Assumes nothing.
+use Rattle.std.specs.Prelude.{Option, Some}
 use mathlib.Core.Bool.{true}
 use mathlib.Core.List.{List, [], append-nil}
 use mathlib.Core.Path.{◌≡◌, ap, refl, subst, sym, ◌∙◌}
@@ -24,8 +25,6 @@ use Rattle.table.proofs.Empty.{empty_packets}
 use Rattle.tasks.specs.declared.Eta.TheVariants as eta
 use Rattle.tasks.specs.declared.Kind.{Kind}
 use Rattle.tasks.specs.declared.Kind.TheVariants as kind
-use Rattle.tasks.specs.declared.Onward.{Onward}
-use Rattle.tasks.specs.declared.Onward.TheVariants as onward
 use Rattle.tasks.specs.declared.Packet.{Packet}
 use Rattle.reachable.specs.Cycle.{Awaited, Cycle, cycles_of}
 use Rattle.reachable.specs.Invariant.{Every, Inv, Safe, also, none}
@@ -62,8 +61,8 @@ change_cycle w s m ls lm i c =
 -- JOIN ----------------------------------------------------------------------------------------------------------------
 
 module _ (w : List ℕ) (i : Inv w) (c : Cycle w) (s : ℕ) (x : Rate) (v : List ℕ) (a : Joined w s x v) where
-  abbrev sends : Onward
-  sends = onward.Send (kind.Join x eta.Own)
+  abbrev sends : Option Kind
+  sends = Some (kind.Join x eta.Own)
 
   abbrev sent : List Packet
   sent = onward_to s 0 sends

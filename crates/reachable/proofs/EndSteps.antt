@@ -1,5 +1,6 @@
 -- A delivery at a source or at a destination: the table after it. And the table after a delivery, wherever its packet arrives.
 -- Assumes nothing.
+use Rattle.std.specs.Prelude.{Option}
 use mathlib.Core.Bool.{Bool, false, true, ◌&&◌}
 use mathlib.Core.List.{List, ◌++◌}
 use mathlib.Core.Path.{◌≡◌, ap, refl, subst, sym, ◌∙◌}
@@ -15,7 +16,6 @@ use Rattle.sending.specs.Sending.{in_turn_of, one_if}
 use Rattle.fractions.proofs.Cases.{and_both, cases}
 use Rattle.records.proofs.Somes.{clash}
 use Rattle.table.specs.Words.{count_of, hops_of, packet_of, removed, source_of}
-use Rattle.tasks.specs.declared.Onward.{Onward}
 use Rattle.tasks.specs.declared.Packet.{Packet}
 use Rattle.tasks.specs.Packets.{goes_down}
 use Rattle.reachable.specs.Invariant.{Every, PacketOk, Safe}
@@ -28,6 +28,7 @@ use Rattle.reachable.proofs.SentPackets.{onward_ok}
 use Rattle.reachable.proofs.SourceRules.{SourceDone, destination_done, down_kind, source_done, up_kind}
 use Rattle.reachable.proofs.SourceWrites.{Written, source_at, source_written}
 use Rattle.reachable.proofs.Unless.{unless_many_lem}
+use Rattle.tasks.specs.declared.Kind.{Kind}
 
 -- what the source of packet p does with it, and sends
 abbrev pub source_does : List ℕ → Packet → SourceDid
@@ -84,7 +85,7 @@ module _ (w : List ℕ) (j : ℕ) (i : Safe w) (h : j < count_of w) where
 
   -- AT ITS DESTINATION --------------------------------------------------------------------------------------------------
 
-  abbrev o : Onward
+  abbrev o : Option Kind
   o = destination_step_of p.kind
 
   module _ (far : hops_of w s < p.hop) where

@@ -21,7 +21,7 @@ use Rattle.reachable.proofs.PassesSafe.{empty_inv}
 pub event_kept : (s w : List ℕ) (x : Record) → RecordOk s x → Inv w → Inv (event_of s w x).words
 unfolding event_of
 event_kept s w (rec.Link e capacity) k i = declare_kept w e capacity k.0 k.2 i
-event_kept s w (rec.Session t access maximum n at) k i = join_kept s w t access maximum n at k.0 k.1 k.2 k.3 k.4 k.5 i
+event_kept s w (rec.Session x) k i = join_kept s w x.session x.access x.maximum x.size x.path k.0 k.1 k.2 k.3 k.4 k.5 i
 event_kept s w (rec.Leave t) k i = leave_kept w t k i
 event_kept s w (rec.Change t maximum) k i = change_kept w t maximum k.0 k.1 i
 event_kept s w (rec.Deliver position) k i = deliver_kept w position i
@@ -29,7 +29,7 @@ event_kept s w (rec.Deliver position) k i = deliver_kept w position i
 pub event_cycle : (s w : List ℕ) (x : Record) → RecordOk s x → Inv w → Cycle w → Cycle (event_of s w x).words
 unfolding event_of
 event_cycle s w (rec.Link e capacity) k i c = declare_cycle w e capacity k.0 k.2 i.safe c
-event_cycle s w (rec.Session t access maximum n at) k i c = join_cycle s w t access maximum n at k.0 k.1 k.2 k.3 k.4 k.5 i c
+event_cycle s w (rec.Session x) k i c = join_cycle s w x.session x.access x.maximum x.size x.path k.0 k.1 k.2 k.3 k.4 k.5 i c
 event_cycle s w (rec.Leave t) k i c = leave_cycle w t k i c
 event_cycle s w (rec.Change t maximum) k i c = change_cycle w t maximum k.0 k.1 i c
 event_cycle s w (rec.Deliver position) k i c = deliver_cycle w position i c

@@ -2,6 +2,7 @@
 -- at the link of the step. After a run on any table that passes the test of refusal 14, reached or handed, every link is within it and no F sums past
 -- C, also where the run ended in a refusal.
 -- Assumes nothing.
+use Rattle.std.specs.Prelude.{Err}
 use mathlib.Core.Bool.{true}
 use mathlib.Core.List.{List}
 use mathlib.Core.Path.{◌≡◌}
@@ -9,7 +10,7 @@ use Prim.Native.Nat.{ℕ, ◌<◌}
 use lib.ListN.{length}
 use Rattle.handed.specs.Handed.{passes14_of}
 use Rattle.handed.proofs.Passing.{passes_means}
-use Rattle.links.specs.declared.Total.TheVariants as total
+use Rattle.links.specs.declared.NoTotal.TheVariants as no_total
 use Rattle.links.specs.Links.{B, is_fine, sum_of}
 use Rattle.machine.specs.Machine.{machine_of}
 use Rattle.records.specs.Format.{Bytes}
@@ -24,7 +25,7 @@ pub handed_stays_safe : (w s : List ℕ) → length w ≡ 9153 → Bytes s → p
 handed_stays_safe w s n bytes t = machine_kept Safe event_safe w s bytes (passes_safe w n (passes_means w t))
 
 pub handed_stays_within_c : (w s : List ℕ) → length w ≡ 9153 → Bytes s → passes14_of w ≡ true → (e : ℕ) → e < 64
-    → sum_of (place_of (machine_of w s).state e) ≡ total.PastC
+    → sum_of (place_of (machine_of w s).state e) ≡ Err no_total.PastC
     → ⊥
 handed_stays_within_c w s n bytes t e l = sound_not_past (place_of (machine_of w s).state e) ((handed_stays_safe w s n bytes t).place e l)
 

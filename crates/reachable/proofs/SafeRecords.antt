@@ -126,8 +126,8 @@ declared_safe w o e v a =
 pub event_safe : (s w : List ℕ) (x : Record) → RecordOk s x → Safe w → Safe (event_of s w x).words
 unfolding event_of
 event_safe s w (rec.Link e capacity) k o = declare_either Safe w e capacity k.0 k.2 o o (λ v a. declared_safe w o e v a)
-event_safe s w (rec.Session t access maximum n at) k o =
-    join_either Safe s w t access maximum n at k.0 k.1 k.2 k.3 k.4 k.5 o o (λ x v a. joined_safe w o t x v a)
+event_safe s w (rec.Session r) k o =
+    join_either Safe s w r.session r.access r.maximum r.size r.path k.0 k.1 k.2 k.3 k.4 k.5 o o (λ x v a. joined_safe w o r.session x v a)
 event_safe s w (rec.Leave t) k o = leave_either Safe w t k o o (λ active v a. leaving_safe w t k o active v a)
 event_safe s w (rec.Change t maximum) k o =
     change_either Safe w t k.0 o o maximum k.1 (λ active v done a. changing_safe w t k.0 o active v maximum done a)

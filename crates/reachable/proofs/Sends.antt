@@ -1,5 +1,6 @@
 -- What a step sends, as a list of packets, and the table after it.
 -- Assumes nothing.
+use Rattle.std.specs.Prelude.{None, Option, Some}
 use mathlib.Core.List.{List, [], ◌∷◌, ◌++◌, append_assoc, append-nil}
 use mathlib.Core.Path.{◌≡◌, ap, ap₂, refl, sym, ◌∙◌}
 use Prim.Native.Nat.{ℕ, suc, ◌+◌, ◌<◌, ◌≤◌}
@@ -14,8 +15,6 @@ use Rattle.table.proofs.Packets.{count_appended, packets_appended}
 use Rattle.table.proofs.Unchanged.{path_after_appended}
 use Rattle.tasks.specs.declared.Burst.{Burst}
 use Rattle.tasks.specs.declared.Kind.{Kind}
-use Rattle.tasks.specs.declared.Onward.{Onward}
-use Rattle.tasks.specs.declared.Onward.TheVariants as onward
 use Rattle.tasks.specs.declared.Packet.{Packet}
 use Rattle.reachable.specs.Invariant.{Every, Fits, also, none}
 use Rattle.reachable.proofs.FitsKept.{fits_appended}
@@ -24,9 +23,9 @@ use Rattle.reachable.proofs.Lines.{SameLines, lines_appended, lines_refl, lines_
 -- THE PACKETS ---------------------------------------------------------------------------------------------------------
 
 -- at most one of the session itself
-abbrev pub onward_to : ℕ → ℕ → Onward → List Packet
-onward_to s h onward.Nothing = []
-onward_to s h (onward.Send k) = sent_from s h k ∷ []
+abbrev pub onward_to : ℕ → ℕ → Option Kind → List Packet
+onward_to s h None = []
+onward_to s h (Some k) = sent_from s h k ∷ []
 
 -- one from link e to each session of a list
 unfoldable pub burst_to : List ℕ → ℕ → Kind → List ℕ → List Packet
@@ -43,14 +42,14 @@ unfolding appended_all
 appended_both u [] ys = refl
 appended_both u (x ∷ xs) ys = appended_both (appended u x) xs ys
 
-pub sends_on : (u : List ℕ) (s h : ℕ) (o : Onward) → send_on_of u s h o ≡ appended_all u (onward_to s h o)
+pub sends_on : (u : List ℕ) (s h : ℕ) (o : Option Kind) → send_on_of u s h o ≡ appended_all u (onward_to s h o)
 unfolding appended_all
-sends_on u s h onward.Nothing = refl
-sends_on u s h (onward.Send k) = refl
+sends_on u s h None = refl
+sends_on u s h (Some k) = refl
 
-pub length_onward : (s h : ℕ) (o : Onward) → length (onward_to s h o) ≡ one_if o
-length_onward s h onward.Nothing = refl
-length_onward s h (onward.Send k) = refl
+pub length_onward : (s h : ℕ) (o : Option Kind) → length (onward_to s h o) ≡ one_if o
+length_onward s h None = refl
+length_onward s h (Some k) = refl
 
 pub length_burst : (w : List ℕ) (e : ℕ) (k : Kind) (l : List ℕ) → length (burst_to w e k l) ≡ length l
 unfolding burst_to

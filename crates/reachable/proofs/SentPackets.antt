@@ -1,5 +1,6 @@
 -- What a task sends: the packets are in range and on their paths, and a Leave that goes on still follows the Join before it.
 -- Assumes nothing.
+use Rattle.std.specs.Prelude.{None, Option, Some}
 use mathlib.Core.Bool.{Bool, false, true}
 use mathlib.Core.List.{List, [], ◌∷◌, ◌++◌}
 use mathlib.Core.Logic.{◌⊎◌, inl, inr}
@@ -15,8 +16,6 @@ use Rattle.table.specs.Words.{hop_of, hops_of}
 use Rattle.table.proofs.InRange.{hops_most}
 use Rattle.tasks.specs.declared.Kind.{Kind}
 use Rattle.tasks.specs.declared.Kind.TheVariants as kind
-use Rattle.tasks.specs.declared.Onward.{Onward}
-use Rattle.tasks.specs.declared.Onward.TheVariants as onward
 use Rattle.tasks.specs.declared.Packet.{Packet}
 use Rattle.tasks.specs.Packets.{goes_down, is_leave}
 use Rattle.reachable.specs.Invariant.{AllFollowed, Every, PacketOk, Reaches, also, end, here, later, next, none}
@@ -77,24 +76,24 @@ sent_ok w s h k l j d u r = record {
     most true t = omega (arith, d t, hops_most w s)
     most false t = omega (arith, u, hops_most w s)
 
-pub onward_ok : (w : List ℕ) (s h : ℕ) (k : Kind) (o : Onward) → GoesOn k o → s < 32 → 0 < hops_of w s → (goes_down k ≡ true → h ≤ hops_of w s) → h ≤ hops_of w s + 1
+pub onward_ok : (w : List ℕ) (s h : ℕ) (k : Kind) (o : Option Kind) → GoesOn k o → s < 32 → 0 < hops_of w s → (goes_down k ≡ true → h ≤ hops_of w s) → h ≤ hops_of w s + 1
     → Every (PacketOk w) (onward_to s h o)
-onward_ok w s h k onward.Nothing g l j d u = none
-onward_ok w s h k (onward.Send i) g l j d u = also (sent_ok w s h i l j (λ t. d (sym g.way ∙ t)) u g.within) none
+onward_ok w s h k None g l j d u = none
+onward_ok w s h k (Some i) g l j d u = also (sent_ok w s h i l j (λ t. d (sym g.way ∙ t)) u g.within) none
 
 -- a Leave goes on to the next hop
-pub onward_leave : (s h : ℕ) (k : Kind) (o : Onward) → GoesOn k o → is_leave k ≡ true → (n : ℕ) → h < n → Reaches s n (onward_to s h o)
-onward_leave s h k onward.Nothing g t n l = absurd (clash (is_leave k) t g)
-onward_leave s h k (onward.Send i) g t n l =
+pub onward_leave : (s h : ℕ) (k : Kind) (o : Option Kind) → GoesOn k o → is_leave k ≡ true → (n : ℕ) → h < n → Reaches s n (onward_to s h o)
+onward_leave s h k None g t n l = absurd (clash (is_leave k) t g)
+onward_leave s h k (Some i) g t n l =
     let d : goes_down i ≡ true = g.way ∙ leave_down k t in
     here {q = sent_from s h i} (record { leave = g.leave ∙ t; session = refl; hop = rw d (omega arith) })
 
 -- a Join that goes on is followed where the one before it was
-pub onward_followed : (active : ℕ → Bool) (s h : ℕ) (k : Kind) (o : Onward) (c : List Packet) → GoesOn k o
+pub onward_followed : (active : ℕ → Bool) (s h : ℕ) (k : Kind) (o : Option Kind) (c : List Packet) → GoesOn k o
     → (is_join k ≡ true → active s ≡ false → Reaches s h c)
     → AllFollowed active c (onward_to s h o)
-onward_followed active s h k onward.Nothing c g f = end
-onward_followed active s h k (onward.Send i) c g f = next (λ j n. inl (go j n)) end
+onward_followed active s h k None c g f = end
+onward_followed active s h k (Some i) c g f = next (λ j n. inl (go j n)) end
   where
     go : is_join i ≡ true → active s ≡ false → Reaches s (next_hop (goes_down i) h - 1) c
     go j n =

@@ -1,6 +1,7 @@
 -- Figures 3 and 4 and the packets of a session's probe cycle: a source sends one only where it was idle or a Response came, and then it waits; a
 -- destination sends one only in place of one.
 -- Assumes nothing.
+use Rattle.std.specs.Prelude.{None, Option, Some}
 use mathlib.Core.Bool.{Bool, false, not, true, ◌&&◌}
 use mathlib.Core.Logic.{◌⊎◌, inl, inr}
 use mathlib.Core.Path.{◌≡◌, refl}
@@ -17,14 +18,12 @@ use Rattle.soundness.specs.ProbeCycle.{in_cycle, is_response, sends_cycle}
 use Rattle.tasks.specs.declared.Eta.{Eta}
 use Rattle.tasks.specs.declared.Kind.{Kind}
 use Rattle.tasks.specs.declared.Kind.TheVariants as kind
-use Rattle.tasks.specs.declared.Onward.{Onward}
-use Rattle.tasks.specs.declared.Onward.TheVariants as onward
 use Rattle.tasks.specs.declared.Tau.{Tau}
 use Rattle.tasks.specs.declared.Tau.TheVariants as tau
 
-abbrev pub sends_join : Onward → Bool
-sends_join onward.Nothing = false
-sends_join (onward.Send k) = is_join k
+abbrev pub sends_join : Option Kind → Bool
+sends_join None = false
+sends_join (Some k) = is_join k
 
 -- a source z did d with a packet of kind k: it stays as idle as it was and sends none; it asks and waits, with no Join, and it was idle or a
 -- Response came; or a Response came and it sends none

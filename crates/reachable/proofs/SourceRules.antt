@@ -1,14 +1,13 @@
 -- What every rule of Figures 3 and 4 does: the source stays in range and as active as it was, and sends nothing but packets in range that are
 -- neither Join nor Leave.
 -- Assumes nothing.
+use Rattle.std.specs.Prelude.{None, Option, Some}
 use mathlib.Core.Bool.{Bool, false, not, true, ◌&&◌, ◌||◌}
 use mathlib.Core.Path.{◌≡◌, refl}
 use Prim.Native.Nat.{ℕ, ◌≤◌}
 use native.Mathlib.Omega.{arith}
 use Rattle.ends.specs.declared.Source.{Source}
 use Rattle.ends.specs.declared.SourceDid.{SourceDid}
-use Rattle.ends.specs.declared.Told.{Told}
-use Rattle.ends.specs.declared.Told.TheVariants as told
 use Rattle.ends.specs.Figure3.{D, again_of, announced_of, arrived_of, assigned_of, at_d, below_d, changing_of, doing, idle_with, keeping, noted_of, probing, request_of, source_bottleneck_of, source_response_of, source_step_of, source_update_of, with_maximum}
 use Rattle.ends.specs.Figure4.{destination_step_of}
 use Rattle.fractions.proofs.Cases.{cases}
@@ -23,8 +22,6 @@ use Rattle.soundness.specs.LinkDid.{GoesOn}
 use Rattle.table.specs.Values.{KindWithin, SourceWithin, ToldWithin}
 use Rattle.tasks.specs.declared.Kind.{Kind}
 use Rattle.tasks.specs.declared.Kind.TheVariants as kind
-use Rattle.tasks.specs.declared.Onward.{Onward}
-use Rattle.tasks.specs.declared.Onward.TheVariants as onward
 use Rattle.tasks.specs.declared.Tau.{Tau}
 use Rattle.tasks.specs.declared.Tau.TheVariants as tau
 
@@ -46,7 +43,7 @@ limit_within z h = whole_within (omega (arith, own_limit_le z.access z.maximum))
 
 module _ (z : Source) (o : SourceWithin z) where
   -- another state, rate and rate told
-  kept : (f : Bool) (m : Mu) (x : Rate) (u b : Bool) (t : Told) (on : Onward) → Within max_rate x → ToldWithin t → GoesOn down_kind on
+  kept : (f : Bool) (m : Mu) (x : Rate) (u b : Bool) (t : Option Rate) (on : Option Kind) → Within max_rate x → ToldWithin t → GoesOn down_kind on
       → SourceDone z (doing (keeping z f m x u b t) on)
   kept f m x u b t on h k g = record {
     active = refl;
@@ -54,17 +51,17 @@ module _ (z : Source) (o : SourceWithin z) where
     on = g;
   }
 
-  nothing : SourceDone z (doing z onward.Nothing)
+  nothing : SourceDone z (doing z None)
   nothing = record { active = refl; within = o; on = refl }
 
   probe_on : GoesOn down_kind (probing z)
   probe_on = record { within = (limit_within z o.access, tt); way = refl; leave = refl; join = refl }
 
-  set_on : (β : Bool) → GoesOn down_kind (onward.Send (kind.SetBottleneck β))
+  set_on : (β : Bool) → GoesOn down_kind (Some (kind.SetBottleneck β))
   set_on β = record { within = tt; way = refl; leave = refl; join = refl }
 
   noted : SourceDone z (noted_of z)
-  noted = kept z.free z.mu z.rate true z.bottlenecked z.told onward.Nothing o.rate o.told refl
+  noted = kept z.free z.mu z.rate true z.bottlenecked z.told None o.rate o.told refl
 
   pub request_done : SourceDone z (request_of z)
   unfolding request_of
@@ -87,7 +84,7 @@ module _ (z : Source) (o : SourceWithin z) where
   announced_done : SourceDone z (announced_of z)
   unfolding announced_of
   announced_done =
-      kept (below_d z z.rate || z.free) z.mu z.rate z.updated true (told.Rate z.rate) (onward.Send (kind.SetBottleneck (at_d z z.rate)))
+      kept (below_d z z.rate || z.free) z.mu z.rate z.updated true (Some z.rate) (Some (kind.SetBottleneck (at_d z z.rate)))
       o.rate o.rate (set_on (at_d z z.rate))
 
   bottleneck_done : SourceDone z (source_bottleneck_of z)
@@ -98,8 +95,8 @@ module _ (z : Source) (o : SourceWithin z) where
   unfolding assigned_of
   assigned_done x h =
       cases (SourceDone z) (at_d z x) _ _
-      (λ e. kept z.free mu.Idle x z.updated true (told.Rate x) (onward.Send (kind.SetBottleneck true)) h h (set_on true))
-      (λ e. kept z.free mu.Idle x z.updated z.bottlenecked z.told onward.Nothing h o.told refl)
+      (λ e. kept z.free mu.Idle x z.updated true (Some x) (Some (kind.SetBottleneck true)) h h (set_on true))
+      (λ e. kept z.free mu.Idle x z.updated z.bottlenecked z.told None h o.told refl)
 
 -- a rate that is taken is announced as the one that the source has
 idle_announced : (z : Source) (x : Rate) → SourceWithin z → Within max_rate x → SourceDone z (announced_of (idle_with z x))

@@ -35,10 +35,3 @@ pub fn read_full<R: Read>(reader: &mut R, buf: &mut [u8]) -> io::Result<usize>
     }
     Ok(done)
 }
-
-// As long as the longest input that a program reads at once.
-pub fn large_buffer() -> [u8; 65_536]
-    ensures { 65536 ≡ length result }
-{
-    [0; 65_536]
-}

@@ -1,12 +1,14 @@
 -- A test of all places below n: one more, one that fails, and each of them; and tests that agree.
 -- Assumes nothing.
-use mathlib.Core.Bool.{Bool, ◌&&◌, false, true}
+use mathlib.Core.Bool.{Bool, ◌&&◌, ◌||◌, false, true}
 use mathlib.Core.Logic.{◌⊎◌, inl, inr}
 use mathlib.Core.Path.{◌≡◌, refl, ap, ap₂, sym, ◌∙◌}
-use Prim.Native.Nat.{ℕ, zero, suc, ◌+◌, ◌<◌}
+use Prim.Native.Nat.{ℕ, zero, suc, ◌+◌, ◌-◌, ◌<◌, ◌≤◌}
 use native.Mathlib.Numerals.{add-one}
 use native.Mathlib.Omega.{arith}
-use Rattle.fractions.proofs.Cases.{and_both, and_false, last}
+use borrow.Author.Tests.{le-ltb, lt-ltb}
+use lib.Dec.{ltb}
+use Rattle.fractions.proofs.Cases.{and_both, and_false, last, order}
 use Rattle.records.specs.Format.{all}
 
 pub all_none : (f : ℕ → Bool) → all 0 f ≡ true
@@ -45,3 +47,19 @@ pub all_eq : (n : ℕ) (f g : ℕ → Bool) → ((i : ℕ) → i < n → f i ≡
 unfolding all
 all_eq zero f g h = refl
 all_eq (suc n) f g h = ap₂ ◌&&◌ (all_eq n f g (λ i l. h i (omega arith))) (h n (omega arith))
+
+-- a test that is asked only of the places from n on
+pub all_behind : (m n : ℕ) (f : ℕ → Bool) → n ≤ m → all m (λ i. ltb i n || f i) ≡ all (m - n) (λ k. f (n + k))
+unfolding all
+all_behind zero n f h = let e : 0 - n ≡ 0 = omega arith in ap (λ (k : ℕ). all k (λ i. f (n + i))) (sym e)
+all_behind (suc m) n f h = go (all_behind m n f) (order n m)
+  where
+    go : (n ≤ m → all m (λ i. ltb i n || f i) ≡ all (m - n) (λ k. f (n + k))) → (n ≤ m) ⊎ (m < n)
+        → (all m (λ i. ltb i n || f i) && (ltb m n || f m)) ≡ all (suc m - n) (λ k. f (n + k))
+    go ih (inl l) =
+        let e : suc m - n ≡ suc (m - n) = omega arith in
+        let p : m ≡ n + (m - n) = omega arith in
+        ap₂ ◌&&◌ (ih l) (ap (λ (b : Bool). b || f m) (le-ltb m n l) ∙ ap f p) ∙ ap (λ (k : ℕ). all k (λ i. f (n + i))) (sym e)
+    go ih (inr l) =
+        let e : suc m - n ≡ 0 = omega arith in
+        all_below (suc m) (λ i. ltb i n || f i) (λ i k. rw (lt-ltb i n (omega arith)) refl) ∙ ap (λ (k : ℕ). all k (λ i. f (n + i))) (sym e)

@@ -1,8 +1,9 @@
--- 01, "What is turned away", and 02: the refusals and their numbers.
+-- 01, "What is turned away", and 02: the refusals and their numbers; and a refusal with its place.
 -- Assumes nothing: definitions.
-use Rattle.std.specs.Prelude.{ℕ}
+use Rattle.std.specs.Prelude.{codes, decimal, List, ◌++◌, ℕ}
 use Rattle.records.specs.declared.Refusal.{Refusal}
 use Rattle.records.specs.declared.Refusal.TheVariants as refusal
+use Rattle.records.specs.declared.Refused.{Refused}
 
 abbrev pub number_of : Refusal → ℕ
 number_of refusal.TooLong = 1  -- input longer than 32,768 bytes
@@ -22,3 +23,11 @@ number_of refusal.BadTable = 14  -- a table handed in has a fault
 number_of refusal.ShortSlice = 15  -- a lent answer slice has fewer than 32 places
 number_of refusal.AboveLine = 16  -- a nonzero maximum larger than the session's access rate (02, §1)
 number_of refusal.ShorterThanOutput = 17  -- a lent slice is shorter than the output (02, §3)
+
+-- "A refusal returns its number and the place of its record's kind byte (0 for 1, 14, 15)"
+abbrev pub refused_at : Refusal → ℕ → Refused
+refused_at r place = record { refusal = r; place = place }
+
+-- 01, "Examples": how the programs print it
+abbrev pub refused_text : Refused → List ℕ
+refused_text r = codes "refused " ++ (decimal (number_of r.refusal) ++ (codes " at " ++ decimal r.place))

@@ -4,13 +4,13 @@
 mod paths;
 mod reading;
 
-ghost use Rattle.std.specs.Prelude.{◌≡◌};
+ghost use Rattle.std.specs.Prelude.{◌≡◌, Some};
 ghost use Rattle.records.specs.Limits.{above_line};
-ghost use Rattle.records.specs.Refusals.{number_of};
-ghost use Rattle.records.specs.Run.{read_number, verdict_number, weighed};
+ghost use Rattle.records.specs.Refusals.{number_of, refused_text};
 
 use fractions::Rate;
-pub use reading::{read_at, size_at, wide};
+pub use reading::{read_at, size_at};
+use std::fmt;
 
 // 64 links, 32 sessions, paths of at most 8 links, rates of at most 1,000,000 kbit/s, 256 packets, 32,768 bytes of input.
 pub const LINKS: u8 = 64;
@@ -28,8 +28,8 @@ pub const INPUT: usize = 32_768;
 // The body's length, by kind.
 pub const BODIES: [usize; 6] = [0, 5, 18, 1, 5, 2];
 
-// Why a call turns something away. `number` gives its number in 01 or 02.
-#[derive(Clone, Copy)]
+// Why a call turns something away. As a `u64` it is its number in 01 or 02.
+#[derive(Clone, Copy, Debug, PartialEq, Eq)]
 pub enum Refusal {
     TooLong,
     KindNotTaken,
@@ -50,82 +50,75 @@ pub enum Refusal {
     ShorterThanOutput,
 }
 
+// A refusal, and the place of its record's kind byte: 0 for those of a whole call.
+#[derive(Clone, Copy, Debug, PartialEq, Eq)]
+pub struct Refused {
+    pub refusal: Refusal,
+    pub place: usize,
+}
+
 // The calls that read records take different kinds.
-#[derive(Clone, Copy)]
+#[derive(Clone, Copy, Debug, PartialEq, Eq)]
 pub enum Call {
     Calculation,
     Machine,
 }
 
-// One record. The link bytes of a session's path stay in the input, from `path` on.
-#[derive(Clone, Copy)]
+// What a session's record says. The link bytes of its path, `size` of them, stay in the input, from `path` on.
+#[derive(Clone, Copy, Debug, PartialEq, Eq)]
+pub struct SessionRecord {
+    pub session: u32,
+    pub access: u64,
+    pub maximum: u64,
+    pub size: usize,
+    pub path: usize,
+}
+
+// One record.
+#[derive(Clone, Copy, Debug, PartialEq, Eq)]
 pub enum Record {
-    Link {
-        link: u32,
-        capacity: u64,
-    },
-    Session {
-        session: u32,
-        access: u64,
-        maximum: u64,
-        size: usize,
-        path: usize,
-    },
-    Leave {
-        session: u32,
-    },
-    Change {
-        session: u32,
-        maximum: u64,
-    },
-    Deliver {
-        position: usize,
-    },
-}
-
-// A record, or why there is none.
-#[derive(Clone, Copy)]
-pub enum Read {
-    Record(Record),
-    Refused(Refusal),
-}
-
-// Whether a record was taken.
-#[derive(Clone, Copy)]
-pub enum Verdict {
-    Taken,
-    Refused(Refusal),
-}
-
-// How a run of records ended; a refusal has the place of its record's kind byte.
-#[derive(Clone, Copy)]
-pub enum End {
-    Finished,
-    Refused { refusal: Refusal, place: usize },
+    Link { link: u32, capacity: u64 },
+    Session(SessionRecord),
+    Leave { session: u32 },
+    Change { session: u32, maximum: u64 },
+    Deliver { position: usize },
 }
 
 // The number of a refusal.
-pub fn number(r: Refusal) -> u64
-    ensures { result ≡ number_of r }
-{
-    match r {
-        Refusal::TooLong => 1,
-        Refusal::KindNotTaken => 2,
-        Refusal::CutOff => 3,
-        Refusal::NumberTooLarge => 4,
-        Refusal::RateOutOfRange => 5,
-        Refusal::BadPath => 6,
-        Refusal::AlreadyThere => 7,
-        Refusal::UndeclaredLink => 8,
-        Refusal::NotActive => 9,
-        Refusal::StillLeaving => 10,
-        Refusal::BadPosition => 11,
-        Refusal::TooFine => 12,
-        Refusal::TooManyPackets => 13,
-        Refusal::BadTable => 14,
-        Refusal::ShortSlice => 15,
-        Refusal::AboveLine => 16,
-        Refusal::ShorterThanOutput => 17,
+impl From<Refusal> for u64 {
+    ghost from_gives = { λ r n. n ≡ number_of r };
+
+    fn from(r: Refusal) -> u64 {
+        match r {
+            Refusal::TooLong => 1,
+            Refusal::KindNotTaken => 2,
+            Refusal::CutOff => 3,
+            Refusal::NumberTooLarge => 4,
+            Refusal::RateOutOfRange => 5,
+            Refusal::BadPath => 6,
+            Refusal::AlreadyThere => 7,
+            Refusal::UndeclaredLink => 8,
+            Refusal::NotActive => 9,
+            Refusal::StillLeaving => 10,
+            Refusal::BadPosition => 11,
+            Refusal::TooFine => 12,
+            Refusal::TooManyPackets => 13,
+            Refusal::BadTable => 14,
+            Refusal::ShortSlice => 15,
+            Refusal::AboveLine => 16,
+            Refusal::ShorterThanOutput => 17,
+        }
+    }
+}
+
+// `refused N at P`, as the programs print it.
+impl fmt::Display for Refused {
+    ghost output = { λ r. Some (refused_text r) };
+
+    fn fmt<W: fmt::Write>(&self, f: &mut fmt::Formatter<W>) -> fmt::Result {
+        let number = u64::from(self.refusal);
+        let place = self.place;
+        write!(f, "refused {number} at {place}")
     }
 }
 
@@ -134,15 +127,4 @@ pub fn above_line(access: u64, maximum: u64) -> bool
     ensures { result ≡ above_line access maximum }
 {
     access < maximum
-}
-
-// A record that was read, unless the verdict on it is a refusal.
-pub fn weigh(v: Verdict, x: Record) -> Read
-    ensures exact { result ≡ weighed v x }
-    ensures said { read_number result ≡ verdict_number v }
-{
-    match v {
-        Verdict::Taken => Read::Record(x),
-        Verdict::Refused(r) => Read::Refused(r),
-    }
 }

@@ -9,12 +9,7 @@ fn links_ok(s: &[u8], at: usize, n: usize) -> bool
     requires { (n ≤ 8) × (at + 8 ≤ length s.now) }
     ensures { result ≡ links_ok s.now at n }
 {
-    for h in 0..n {
-        if LINKS <= s[at + h] {
-            return false;
-        }
-    }
-    true
+    s[at..at + n].iter().all(|e| *e < LINKS)
 }
 
 // Whether none of the first n bytes of a path is this link.
@@ -22,12 +17,7 @@ fn is_new(s: &[u8], at: usize, n: usize, link: u8) -> bool
     requires { (n ≤ 8) × (at + 8 ≤ length s.now) }
     ensures { result ≡ is_new s.now at n link }
 {
-    for g in 0..n {
-        if s[at + g] == link {
-            return false;
-        }
-    }
-    true
+    s[at..at + n].iter().all(|e| *e != link)
 }
 
 // Whether no link stands twice in a path.
@@ -35,12 +25,7 @@ fn links_differ(s: &[u8], at: usize, n: usize) -> bool
     requires { (n ≤ 8) × (at + 8 ≤ length s.now) }
     ensures { result ≡ differ s.now at n }
 {
-    for h in 0..n {
-        if !is_new(s, at, h, s[at + h]) {
-            return false;
-        }
-    }
-    true
+    (0..n).all(|h| is_new(s, at, h, s[at + h]))
 }
 
 // Whether the bytes that a path of n links does not use are 255.
@@ -48,12 +33,7 @@ fn rest_ok(s: &[u8], at: usize, n: usize) -> bool
     requires { (n ≤ 8) × (at + 8 ≤ length s.now) }
     ensures { result ≡ rest_ok s.now at n }
 {
-    for h in n..PATH {
-        if s[at + h] != 255 {
-            return false;
-        }
-    }
-    true
+    s[at + n..at + PATH].iter().all(|e| *e == 255)
 }
 
 // Whether a path is one.
@@ -61,17 +41,5 @@ pub fn path_ok(s: &[u8], at: usize, n: usize) -> bool
     requires { at + 8 ≤ length s.now }
     ensures { result ≡ path_ok s.now at n }
 {
-    if n == 0 {
-        return false;
-    }
-    if PATH < n {
-        return false;
-    }
-    if !links_ok(s, at, n) {
-        return false;
-    }
-    if !links_differ(s, at, n) {
-        return false;
-    }
-    rest_ok(s, at, n)
+    0 < n && n <= PATH && links_ok(s, at, n) && links_differ(s, at, n) && rest_ok(s, at, n)
 }

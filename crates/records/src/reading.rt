@@ -4,47 +4,32 @@ ghost use Rattle.records.specs.Format.{be2, be4, takes_of, body_of, rate_ok, lin
 ghost use Rattle.records.specs.Run.{read_number};
 
 use super::paths::path_ok;
-use super::{BODIES, Call, LINKS, RATE, Read, Record, Refusal, SESSIONS};
+use super::{BODIES, Call, LINKS, RATE, Record, Refusal, SESSIONS, SessionRecord};
 
-// Whether the call takes records of this kind.
+// Whether the call takes records of this kind. Kinds stay the bytes of 01, as the definitions have them: an enum would only add a number for each and a
+// conversion that refuses.
 fn takes(call: Call, kind: u8) -> bool
     ensures { result ≡ takes_of call kind }
 {
     match call {
-        Call::Calculation => kind == 1 || kind == 2,
-        Call::Machine => 0 < kind && kind <= 5,
+        Call::Calculation => matches!(kind, 1 | 2),
+        Call::Machine => matches!(kind, 1..=5),
     }
 }
 
-// The length of a body.
+// The length of a body: 0 where no kind has the number.
 fn body(kind: u8) -> usize
     ensures { (result ≡ body_of kind) × (result ≤ 18) }
 {
-    match kind {
-        1 => BODIES[1],
-        2 => BODIES[2],
-        3 => BODIES[3],
-        4 => BODIES[4],
-        5 => BODIES[5],
-        _ => BODIES[0],
-    }
-}
-
-// A byte as a number.
-pub fn wide(x: u8) -> u64
-    ensures { (result ≡ x) × (result < 256) }
-{
-    x as u64
+    BODIES.get(usize::from(kind)).copied().unwrap_or(0)
 }
 
 // Two bytes, the highest first.
-fn number2(s: &[u8], at: usize) -> u64
+fn number2(s: &[u8], at: usize) -> u16
     requires { at + 2 ≤ length s.now }
-    ensures { (result ≡ be2 s.now at) × (result < 65536) }
+    ensures { result ≡ be2 s.now at }
 {
-    let a = wide(s[at]);
-    let b = wide(s[at + 1]);
-    a * 256 + b
+    u16::from_be_bytes([s[at], s[at + 1]])
 }
 
 // Four bytes, the highest first.
@@ -52,11 +37,7 @@ fn number4(s: &[u8], at: usize) -> u64
     requires { at + 4 ≤ length s.now }
     ensures { result ≡ be4 s.now at }
 {
-    let a = wide(s[at]);
-    let b = wide(s[at + 1]);
-    let c = wide(s[at + 2]);
-    let d = wide(s[at + 3]);
-    ((a * 256 + b) * 256 + c) * 256 + d
+    u64::from(u32::from_be_bytes([s[at], s[at + 1], s[at + 2], s[at + 3]]))
 }
 
 // Whether a capacity or an access rate is one.
@@ -67,101 +48,99 @@ fn rate_ok(n: u64) -> bool
 }
 
 // Kind 1.
-fn link_at(s: &[u8], at: usize) -> Read
+fn link_at(s: &[u8], at: usize) -> Result<Record, Refusal>
     requires { at + 6 ≤ length s.now }
     ensures { result ≡ link_at s.now at }
 {
     let link = s[at + 1];
     let capacity = number4(s, at + 2);
     if LINKS <= link {
-        return Read::Refused(Refusal::NumberTooLarge);
+        return Err(Refusal::NumberTooLarge);
     }
     if !rate_ok(capacity) {
-        return Read::Refused(Refusal::RateOutOfRange);
+        return Err(Refusal::RateOutOfRange);
     }
-    Read::Record(Record::Link {
-        link: link as u32,
-        capacity: capacity,
+    Ok(Record::Link {
+        link: u32::from(link),
+        capacity,
     })
 }
 
 // Kind 2.
-fn session_at(s: &[u8], at: usize) -> Read
+fn session_at(s: &[u8], at: usize) -> Result<Record, Refusal>
     requires { at + 19 ≤ length s.now }
     ensures { result ≡ session_at s.now at }
 {
     let session = s[at + 1];
     let access = number4(s, at + 2);
     let maximum = number4(s, at + 6);
-    let size = wide(s[at + 10]) as usize;
+    let size = usize::from(s[at + 10]);
     let path = at + 11;
     if SESSIONS <= session {
-        return Read::Refused(Refusal::NumberTooLarge);
+        return Err(Refusal::NumberTooLarge);
     }
     if !rate_ok(access) {
-        return Read::Refused(Refusal::RateOutOfRange);
+        return Err(Refusal::RateOutOfRange);
     }
     if RATE < maximum {
-        return Read::Refused(Refusal::RateOutOfRange);
+        return Err(Refusal::RateOutOfRange);
     }
     if !path_ok(s, path, size) {
-        return Read::Refused(Refusal::BadPath);
+        return Err(Refusal::BadPath);
     }
-    Read::Record(Record::Session {
-        session: session as u32,
-        access: access,
-        maximum: maximum,
-        size: size,
-        path: path,
-    })
+    Ok(Record::Session(SessionRecord {
+        session: u32::from(session),
+        access,
+        maximum,
+        size,
+        path,
+    }))
 }
 
 // Kind 3.
-fn leave_at(s: &[u8], at: usize) -> Read
+fn leave_at(s: &[u8], at: usize) -> Result<Record, Refusal>
     requires { at + 2 ≤ length s.now }
     ensures { result ≡ leave_at s.now at }
 {
     let session = s[at + 1];
     if SESSIONS <= session {
-        return Read::Refused(Refusal::NumberTooLarge);
+        return Err(Refusal::NumberTooLarge);
     }
-    Read::Record(Record::Leave {
-        session: session as u32,
+    Ok(Record::Leave {
+        session: u32::from(session),
     })
 }
 
 // Kind 4.
-fn change_at(s: &[u8], at: usize) -> Read
+fn change_at(s: &[u8], at: usize) -> Result<Record, Refusal>
     requires { at + 6 ≤ length s.now }
     ensures { result ≡ change_at s.now at }
 {
     let session = s[at + 1];
     let maximum = number4(s, at + 2);
     if SESSIONS <= session {
-        return Read::Refused(Refusal::NumberTooLarge);
+        return Err(Refusal::NumberTooLarge);
     }
     if RATE < maximum {
-        return Read::Refused(Refusal::RateOutOfRange);
+        return Err(Refusal::RateOutOfRange);
     }
-    Read::Record(Record::Change {
-        session: session as u32,
-        maximum: maximum,
+    Ok(Record::Change {
+        session: u32::from(session),
+        maximum,
     })
 }
 
 // Kind 5.
-fn deliver_at(s: &[u8], at: usize) -> Read
+fn deliver_at(s: &[u8], at: usize) -> Result<Record, Refusal>
     requires { at + 3 ≤ length s.now }
     ensures { result ≡ deliver_at s.now at }
 {
-    let position = number2(s, at + 1);
-    Read::Record(Record::Deliver {
-        position: position as usize,
-    })
+    let position = usize::from(number2(s, at + 1));
+    Ok(Record::Deliver { position })
 }
 
 // A whole record, by its kind.
-fn body_at(s: &[u8], at: usize, kind: u8) -> Read
+fn body_at(s: &[u8], at: usize, kind: u8) -> Result<Record, Refusal>
     requires { (0 < kind) × (kind ≤ 5) × (kind ≡ get_or s.now at 0) × (at + 1 + body_of kind ≤ length s.now) }
     ensures { result ≡ body_at s.now at }
 {
@@ -175,19 +154,19 @@ fn body_at(s: &[u8], at: usize, kind: u8) -> Read
 }
 
 // The record at a place: refusals 2 to 6 in number order. Past the end stands no kind, and so none that is taken.
-pub fn read_at(call: Call, s: &[u8], at: usize) -> Read
+pub fn read_at(call: Call, s: &[u8], at: usize) -> Result<Record, Refusal>
     ensures exact { result ≡ read_at call s.now at }
     ensures said { read_number result ≡ read_number (read_at call s.now at) }
 {
     if s.len() <= at {
-        return Read::Refused(Refusal::KindNotTaken);
+        return Err(Refusal::KindNotTaken);
     }
     let kind = s[at];
     if !takes(call, kind) {
-        return Read::Refused(Refusal::KindNotTaken);
+        return Err(Refusal::KindNotTaken);
     }
     if s.len() - at < 1 + body(kind) {
-        return Read::Refused(Refusal::CutOff);
+        return Err(Refusal::CutOff);
     }
     body_at(s, at, kind)
 }

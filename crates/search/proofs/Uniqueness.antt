@@ -1,25 +1,29 @@
 -- Each statement of the search has one answer.
 -- Assumes nothing.
+use Rattle.std.specs.Prelude.{Option, None, Some}
 use mathlib.Core.Logic.{◌⊎◌, inl, inr}
 use mathlib.Core.List.{List}
-use mathlib.Core.Path.{◌≡◌, sym, ◌∙◌}
+use mathlib.Core.Path.{◌≡◌, refl, sym, ap, ◌∙◌}
 use Prim.Native.Nat.{ℕ, ◌<◌}
 use native.Mathlib.Decide.{dec_lt}
 use native.Mathlib.Omega.{arith}
 use Rattle.sessions.specs.Set.{has}
 use Rattle.sessions.proofs.Members.{has_or_not, same_members}
-use Rattle.search.specs.Crossing.{AllAt, FirstAt}
+use Rattle.search.specs.Crossing.{AllAt, FirstAt, IsFirst}
 
-pub first_at_unique : (path : List ℕ) (left links q r : ℕ) → FirstAt path left links q → FirstAt path left links r → q ≡ r
-first_at_unique path left links q r f g = go (dec_lt q r) (dec_lt r q)
+first_unique : (path : List ℕ) (left links q r : ℕ) → IsFirst path left links q → IsFirst path left links r → q ≡ r
+first_unique path left links q r f g = go (dec_lt q r) (dec_lt r q)
   where
-    not_below : (a b : ℕ) → FirstAt path left links a → FirstAt path left links b → a < b → ⊥
-    not_below a b x y l = let h = x.hit (omega (arith, y.at_most)) in y.none_before a l h.0 h.1
-
     go : Dec (q < r) → Dec (r < q) → q ≡ r
-    go (yes l) k = absurd (not_below q r f g l)
-    go (no n) (yes l) = absurd (not_below r q g f l)
+    go (yes l) k = absurd (g.none_before q l f.member f.hit)
+    go (no n) (yes l) = absurd (f.none_before r l g.member g.hit)
     go (no n) (no m) = omega arith
+
+pub first_at_unique : (path : List ℕ) (left links : ℕ) (q r : Option ℕ) → FirstAt path left links q → FirstAt path left links r → q ≡ r
+first_at_unique path left links None None f g = refl
+first_at_unique path left links None (Some r) f g = absurd (f r g.below g.member g.hit)
+first_at_unique path left links (Some q) None f g = absurd (g q f.below f.member f.hit)
+first_at_unique path left links (Some q) (Some r) f g = ap Some (first_unique path left links q r f g)
 
 pub all_at_unique : (path : List ℕ) (opens links q r : ℕ) → AllAt path opens links q → AllAt path opens links r → q ≡ r
 all_at_unique path opens links q r f g =

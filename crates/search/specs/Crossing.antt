@@ -1,6 +1,6 @@
 -- The sessions of a set that cross a link of a set: the first of them, and all (01, "The direct calculation").
 -- Assumes nothing: definitions.
-use Rattle.std.specs.Prelude.{List, ◌≡◌, ℕ, ◌*◌, ◌+◌, ◌-◌, ◌<◌, ◌≤◌, ◌^◌, get_or}
+use Rattle.std.specs.Prelude.{List, Option, None, Some, ◌≡◌, ℕ, ◌*◌, ◌+◌, ◌-◌, ◌<◌, ◌^◌, get_or}
 use Rattle.std.specs.Int.Bits.{bit_and}
 use Rattle.sessions.specs.Set.{cut, has}
 
@@ -12,11 +12,17 @@ byte_at path s h = get_or path (s * 8 + h) 0
 abbrev pub Meets : List ℕ → ℕ → ℕ → Type 0
 Meets path links s = (h : ℕ) × (h < 8) × (has (byte_at path s h) links ≡ 1)
 
--- r is the first session of left that crosses one of the links, or 32 where none does
-pub record FirstAt (path : List ℕ) (left links r : ℕ) : Type 0 where
-  pub at_most : r ≤ 32
+-- r is the first session of left that crosses one of the links
+pub record IsFirst (path : List ℕ) (left links r : ℕ) : Type 0 where
+  pub below : r < 32
+  pub member : has r left ≡ 1
+  pub hit : Meets path links r
   pub none_before : (s : ℕ) → s < r → has s left ≡ 1 → Meets path links s → ⊥
-  pub hit : r < 32 → (has r left ≡ 1) × Meets path links r
+
+-- the first session of left that crosses one of the links, or none where none does
+abbrev pub FirstAt : List ℕ → ℕ → ℕ → Option ℕ → Type 0
+FirstAt path left links None = (s : ℕ) → s < 32 → has s left ≡ 1 → Meets path links s → ⊥
+FirstAt path left links (Some r) = IsFirst path left links r
 
 -- r has exactly the sessions of opens that cross one of the links
 pub record AllAt (path : List ℕ) (opens links r : ℕ) : Type 0 where

@@ -2,33 +2,22 @@
 #![tactic(auto)]
 
 ghost use Rattle.std.specs.Prelude.{◌≡◌, ◌<◌};
-ghost use Rattle.sessions.specs.Set.{has_of};
 ghost use Rattle.search.specs.Crossing.{AllAt, FirstAt, after_of};
 
-// Whether a path byte is one of the links.
-fn in_links(links: u64, e: u8) -> bool
-    ensures { result ≡ has_of e links }
-{
-    sessions::has_link(links, e as u32)
-}
-
-// The first session of left that crosses one of the links, or 32 where none does. 01: the search for a session that crosses a chosen link
-// stops at its first hit, out of both loops.
-pub fn first_at(path: &[u8; 256], left: u32, links: u64) -> u32
+// The first session of left that crosses one of the links. 01: the search for a session that crosses a chosen link stops at its first hit, out of both
+// loops. 01 names this form, two loops that are left by a label, so no chain stands in its place.
+pub fn first_at(path: &[u8; 256], left: u32, links: u64) -> Option<u32>
     ensures { FirstAt path.now left links result }
 {
-    let mut found: u32 = 32;
-    let mut rest = left;
-    'search: while rest != 0 {
-        let s = sessions::next(rest);
-        let from = (s as usize) * 8;
-        for h in 0..8usize {
-            if in_links(links, path[from + h]) {
-                found = s;
+    let mut found = None;
+    'search: for s in sessions::each(left) {
+        let from = s as usize * 8;
+        for e in &path[from..from + 8] {
+            if sessions::has(links, u32::from(*e)) {
+                found = Some(s);
                 break 'search;
             }
         }
-        rest = sessions::cut(rest, s);
     }
     found
 }
@@ -38,7 +27,7 @@ fn after(left: u32, s: u32) -> u32
     requires { s < 32 }
     ensures { result ≡ after_of left s }
 {
-    let before = sessions::only(s) - 1;
+    let before = sessions::only::<u32>(s) - 1;
     sessions::cut(left & !before, s)
 }
 
@@ -51,11 +40,7 @@ pub fn all_at(path: &[u8; 256], opens: u32, links: u64) -> u32
     }
     let mut found: u32 = 0;
     let mut left = opens;
-    while left != 0 {
-        let s = first_at(path, left, links);
-        if 32 <= s {
-            return found;
-        }
+    while let Some(s) = first_at(path, left, links) {
         found = sessions::put(found, s);
         left = after(left, s);
     }

@@ -1,7 +1,7 @@
 -- What a step sends, and whose turn it is (01, "The tasks"): packets go to the end of the list in order of sending, each to the next hop on its way.
 -- w are the words.
 -- Assumes nothing: definitions.
-use Rattle.std.specs.Prelude.{Bool, cond, not, ◌&&◌, List, ℕ, ◌+◌, ◌-◌, eqb}
+use Rattle.std.specs.Prelude.{Bool, cond, not, ◌&&◌, List, ℕ, ◌+◌, ◌-◌, eqb, None, Option, Some}
 use Rattle.records.specs.Format.{all}
 use Rattle.sessions.specs.Set.{members, put, walk}
 use Rattle.table.specs.Words.{appended, hop_of, packet_of}
@@ -9,8 +9,6 @@ use Rattle.tasks.specs.declared.Burst.{Burst}
 use Rattle.tasks.specs.declared.Burst.TheVariants as burst
 use Rattle.tasks.specs.declared.Kind.{Kind}
 use Rattle.tasks.specs.declared.Kind.TheVariants as kind
-use Rattle.tasks.specs.declared.Onward.{Onward}
-use Rattle.tasks.specs.declared.Onward.TheVariants as onward
 use Rattle.tasks.specs.declared.Packet.{Packet}
 use Rattle.tasks.specs.Packets.{goes_down, same_way}
 
@@ -23,13 +21,13 @@ abbrev pub sent_from : ℕ → ℕ → Kind → Packet
 sent_from s h k = record { session = s; hop = next_hop (goes_down k) h; down = goes_down k; kind = k }
 
 -- at most one packet of the session itself
-abbrev pub send_on_of : List ℕ → ℕ → ℕ → Onward → List ℕ
-send_on_of w s h onward.Nothing = w
-send_on_of w s h (onward.Send k) = appended w (sent_from s h k)
+abbrev pub send_on_of : List ℕ → ℕ → ℕ → Option Kind → List ℕ
+send_on_of w s h None = w
+send_on_of w s h (Some k) = appended w (sent_from s h k)
 
-abbrev pub one_if : Onward → ℕ
-one_if onward.Nothing = 0
-one_if (onward.Send k) = 1
+abbrev pub one_if : Option Kind → ℕ
+one_if None = 0
+one_if (Some k) = 1
 
 abbrev pub burst_kind : Burst → Kind
 burst_kind burst.Update = kind.Update

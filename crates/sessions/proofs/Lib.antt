@@ -6,3 +6,6 @@ pub mod Walks
 pub mod Writes
 pub mod EachMember
 mod Examples
+pub mod Loops
+pub mod Chains
+pub mod Remaining

@@ -3,12 +3,13 @@
 use mathlib.Core.List.{List, [], ◌∷◌}
 use mathlib.Core.Logic.{◌⊎◌, ⊎_elim}
 use mathlib.Core.Path.{◌≡◌, refl, sym, ap, ap₂, subst, ◌∙◌}
-use Prim.Native.Nat.{ℕ, zero, suc, ◌+◌, ◌*◌, ◌/◌, ◌%◌, ◌^◌, ◌<◌, suc-le-suc}
-use native.Mathlib.Nat.{pow-suc, add-zero, zero-add, add-mul}
+use Prim.Native.Nat.{ℕ, zero, suc, ◌+◌, ◌*◌, ◌/◌, ◌%◌, ◌^◌, ◌<◌, ◌≤◌, min, suc-le-suc}
+use native.Mathlib.Nat.{pow-suc, add-zero, zero-add, add-mul, min-zero}
 use native.Mathlib.Omega.{arith}
 use lib.Count.{ones, ones_step, count_trailing_zeros}
 use lib.ListN.{length}
-use Rattle.sessions.specs.Set.{has, cut, members_from, put, walk}
+use Rattle.std.specs.Prelude.{Some}
+use Rattle.sessions.specs.Set.{GivesMember, has, cut, members_from, put, walk}
 use Rattle.sessions.proofs.Members.{cut_lt, digit, has_high, put_new}
 use Rattle.sessions.proofs.Counts.{ones_pos, ones_zero}
 
@@ -16,12 +17,6 @@ two : (w : ℕ) → (w % 2 ≡ 0) ⊎ (w % 2 ≡ 1)
 two w = digit (w % 2) (omega arith)
 
 -- THE LOWEST MEMBER ---------------------------------------------------------------------------------------------------
-
-pub low_has : (k w : ℕ) → 0 < w → w < 2 ^ k → has (count_trailing_zeros k w) w ≡ 1
-unfolding has count_trailing_zeros
-low_has zero w p h = omega arith
-low_has (suc k) w p h =
-    ⊎_elim (λ e. rw e (low_has k (w / 2) (omega arith) (omega (arith, pow-suc 2 k)))) (λ e. rw e e) (two w)
 
 pub low_lt : (k w : ℕ) → 0 < w → w < 2 ^ k → count_trailing_zeros k w < k
 unfolding count_trailing_zeros
@@ -37,9 +32,13 @@ below_low (suc k) w zero h = ⊎_elim (λ e. e) (λ e. absurd (omega (arith, rw 
 below_low (suc k) w (suc t) h =
     ⊎_elim (λ e. below_low k (w / 2) t (omega (arith, rw e at h))) (λ e. absurd (omega (arith, rw e at h))) (two w)
 
--- a set that is not empty has a size
-pub ones_some : (k w : ℕ) → 0 < w → w < 2 ^ k → 0 < ones w
-ones_some k w p h = ones_pos (count_trailing_zeros k w) w (low_has k w p h)
+-- among more digits too
+pub low_min : (j k w : ℕ) → k ≤ j → min (count_trailing_zeros j w) k ≡ count_trailing_zeros k w
+unfolding count_trailing_zeros
+low_min j zero w h = min-zero (count_trailing_zeros j w)
+low_min zero (suc k) w h = absurd (omega arith)
+low_min (suc j) (suc k) w h =
+    ⊎_elim (λ e. rw e (omega (arith, low_min j k (w / 2) (omega arith)))) (λ e. rw e (omega arith)) (two w)
 
 low_even : (k w : ℕ) → w % 2 ≡ 0 → count_trailing_zeros (suc k) w ≡ suc (count_trailing_zeros k (w / 2))
 unfolding count_trailing_zeros
@@ -48,6 +47,26 @@ low_even k w e = rw e
 low_odd : (k w : ℕ) → w % 2 ≡ 1 → count_trailing_zeros (suc k) w ≡ 0
 unfolding count_trailing_zeros
 low_odd k w e = rw e
+
+-- it is a member, where there is one
+pub first_has : (k w : ℕ) → count_trailing_zeros k w < k → has (count_trailing_zeros k w) w ≡ 1
+unfolding has
+first_has zero w h = absurd (omega arith)
+first_has (suc k) w h =
+    ⊎_elim (λ e. rw (low_even k w e) (first_has k (w / 2) (omega (arith, h, low_even k w e)))) (λ e. rw (low_odd k w e) e) (two w)
+
+pub low_has : (k w : ℕ) → 0 < w → w < 2 ^ k → has (count_trailing_zeros k w) w ≡ 1
+low_has k w p h = first_has k w (low_lt k w p h)
+
+-- a set that is not empty has a size
+pub ones_some : (k w : ℕ) → 0 < w → w < 2 ^ k → 0 < ones w
+ones_some k w p h = ones_pos (count_trailing_zeros k w) w (low_has k w p h)
+
+-- at most all digits are 0
+pub low_le : (k w : ℕ) → count_trailing_zeros k w ≤ k
+unfolding count_trailing_zeros
+low_le zero w = omega arith
+low_le (suc k) w = ⊎_elim (λ e. rw e (omega (arith, low_le k (w / 2)))) (λ e. rw e (omega arith)) (two w)
 
 -- THE MEMBERS AS A LIST -----------------------------------------------------------------------------------------------
 
@@ -65,11 +84,11 @@ unfolding members_from
 members_odd k b w v e f = rw (e, f)
 
 -- the lowest comes first, then the members of what is left
-pub members_low : (k b w : ℕ) → 0 < w → w < 2 ^ k
+pub members_first : (k b w : ℕ) → count_trailing_zeros k w < k
     → members_from k b w ≡ (b + count_trailing_zeros k w) ∷ members_from k b (cut (count_trailing_zeros k w) w)
 unfolding cut
-members_low zero b w p h = absurd (omega arith)
-members_low (suc k) b w p h =
+members_first zero b w h = absurd (omega arith)
+members_first (suc k) b w h =
     ⊎_elim
     (λ e.
     let t = count_trailing_zeros k (w / 2) in
@@ -77,7 +96,7 @@ members_low (suc k) b w p h =
     let f : (cut t (w / 2) * 2 + w % 2) % 2 ≡ 0 = omega arith in
     let q : (cut t (w / 2) * 2 + w % 2) / 2 ≡ cut t (w / 2) = omega arith in
     members_even k b w (w / 2) e refl
-    ∙ members_low k (suc b) (w / 2) (omega arith) (omega (arith, pow-suc 2 k))
+    ∙ members_first k (suc b) (w / 2) (omega (arith, h, low_even k w e))
     ∙ rw (low_even k w e)
     (ap₂ (λ (x : ℕ) (l : List ℕ). x ∷ l) j
     (sym (members_even k b (cut t (w / 2) * 2 + w % 2) (cut t (w / 2)) f q))))
@@ -87,6 +106,38 @@ members_low (suc k) b w p h =
     (ap₂ (λ (x : ℕ) (l : List ℕ). x ∷ l) (sym (add-zero b))
     (sym (members_even k b (w / 2 * 2) (w / 2) (omega arith) (omega arith)))))
     (two w)
+
+-- so it is of every set that is not empty
+pub members_low : (k b w : ℕ) → 0 < w → w < 2 ^ k
+    → members_from k b w ≡ (b + count_trailing_zeros k w) ∷ members_from k b (cut (count_trailing_zeros k w) w)
+members_low k b w p h = members_first k b w (low_lt k w p h)
+
+-- so the lowest comes, and the word without it is left
+pub gives_member : (k w s v : ℕ) → s < k → s ≡ count_trailing_zeros k w → v ≡ cut s w → GivesMember k w (Some s) v
+gives_member k w s v h e f =
+    let l : count_trailing_zeros k w < k = omega (arith, h, e) in (
+      members_first k 0 w l ∙ rw (f, e, zero-add),
+      h,
+      rw e (first_has k w l),
+      f,
+    )
+
+-- and where all digits are 0, there is none
+pub members_none : (k b w : ℕ) → count_trailing_zeros k w ≡ k → members_from k b w ≡ []
+unfolding members_from
+members_none zero b w h = refl
+members_none (suc k) b w h =
+    ⊎_elim (λ e. rw e (members_none k (suc b) (w / 2) (omega (arith, h, low_even k w e)))) (λ e. absurd (omega (arith, h, low_odd k w e))) (two w)
+
+-- where the list is empty nobody is a member
+pub nobody_has : (k b w s : ℕ) → members_from k b w ≡ [] → s < k → has s w ≡ 0
+unfolding has
+nobody_has zero b w s e h = absurd (omega arith)
+nobody_has (suc k) b w zero e h =
+    ⊎_elim (λ z. z) (λ o. absurd (let f : b ∷ members_from k (suc b) (w / 2) ≡ [] = sym (members_odd k b w (w / 2) o refl) ∙ e in cc)) (two w)
+nobody_has (suc k) b w (suc s) e h =
+    ⊎_elim (λ z. nobody_has k (suc b) (w / 2) s (sym (members_even k b w (w / 2) z refl) ∙ e) (omega arith))
+    (λ o. absurd (let f : b ∷ members_from k (suc b) (w / 2) ≡ [] = sym (members_odd k b w (w / 2) o refl) ∙ e in cc)) (two w)
 
 -- put together again they make the word
 pub members_make : (k b w a : ℕ) → w < 2 ^ k → walk (λ x s. x + 2 ^ s) a (members_from k b w) ≡ a + w * 2 ^ b
@@ -148,7 +199,7 @@ module _ (k w s : ℕ) (p : 0 < w) (h : w < 2 ^ k) (e : s ≡ count_trailing_zer
   next_less v f = rw (f, e) (cut_lt (count_trailing_zeros k w) w (low_has k w p h))
 
   pub next_members : (v : ℕ) → v ≡ cut s w → members_from k 0 w ≡ s ∷ members_from k 0 v
-  next_members v f = members_low k 0 w p h ∙ rw (f, e, zero-add)
+  next_members v f = members_first k 0 w (low_lt k w p h) ∙ rw (f, e, zero-add)
 
 pub no_members : (k w : ℕ) → w ≡ 0 → members_from k 0 w ≡ []
 no_members k w e = rw (e, members_zero k 0)

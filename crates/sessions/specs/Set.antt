@@ -1,7 +1,7 @@
 -- A word as a set of sessions (01, "Fractions") or of links: s is a member of w where w's digit s is 1. Digits are taken lowest first, by `% 2` and
 -- `/ 2`, so that the definitions compute on a word that is written out, also on the one of all 32 sessions.
 -- Assumes nothing: definitions.
-use Rattle.std.specs.Prelude.{List, [], ◌∷◌, Bool, ℕ, zero, suc, ◌+◌, ◌*◌, ◌/◌, ◌%◌, ◌^◌, eqb}
+use Rattle.std.specs.Prelude.{◌≡◌, List, [], ◌∷◌, Bool, ℕ, zero, suc, ◌+◌, ◌*◌, ◌/◌, ◌%◌, ◌^◌, ◌<◌, eqb, Option, MatchOption}
 use Rattle.std.specs.Int.Count.{ones_in, count_trailing_zeros}
 
 -- 1 where s is a member of w, else 0
@@ -52,6 +52,12 @@ members_from (suc k) b w = cons_if (w % 2) b (members_from k (suc b) (w / 2))
 -- the members of w, by rising number
 abbrev pub members : ℕ → List ℕ
 members w = members_from 32 0 w
+
+-- of a word of k digits whose members are given by rising number, w is left: s comes, the lowest, and v is left without it; or none is left
+abbrev pub GivesMember : ℕ → ℕ → Option ℕ → ℕ → Type 0
+GivesMember k w r v =
+    MatchOption r ((members_from k 0 w ≡ []) × (members_from k 0 v ≡ []))
+    (λ s. (members_from k 0 w ≡ s ∷ members_from k 0 v) × (s < k) × (has s w ≡ 1) × (v ≡ cut s w))
 
 -- a state taken through the sessions of a list, one after the other
 unfoldable pub walk : {S : Type 0} → (S → ℕ → S) → S → List ℕ → S

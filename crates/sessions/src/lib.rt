@@ -1,100 +1,142 @@
 // Sets as words: of sessions with 32 bits, one bit a session (01, "Fractions"), and of links with 64.
 #![tactic(auto)]
 
-ghost use Rattle.std.specs.Prelude.{◌≡◌, ℕ, ◌<◌};
-ghost use Rattle.std.specs.Int.Count.{ones_in};
-ghost use Rattle.sessions.specs.Set.{has_of, only_of, put, cut, size_of, next_of, next_link_of};
+ghost use Rattle.std.specs.Prelude.{◌≡◌, ℕ, ◌^◌, ◌<◌, ◌≤◌, length};
+ghost use Rattle.std.proofs.Common.{rules};
+ghost use Rattle.std.specs.Int.Count.{ones_in, count_trailing_zeros};
+ghost use Rattle.std.specs.Iterator.{at_most};
+ghost use Rattle.sessions.specs.Set.{has_of, only_of, put, cut, members_from, GivesMember};
 
-// The set of one session.
-pub fn only(s: u32) -> u32
-    requires { s < 32 }
-    ensures { result ≡ only_of s }
-{
-    1u32 << s
+// A word that is a set, one digit a member. Each operation stands once, over the bits of a word of at most 64 digits.
+pub trait Word: Copy + Drop {
+    ghost WIDTH: { ℕ };
+
+    // Its number.
+    ghost value: { Self → ℕ };
+
+    const WIDTH: u32;
+
+    fn bits(self) -> u64
+        ensures same { result ≡ value self }
+        ensures within { result < 2 ^ WIDTH };
+
+    fn from_bits(n: u64) -> Self
+        requires { n < 2 ^ WIDTH }
+        ensures { value result ≡ n };
+
+    ghost at_most_64: { WIDTH ≤ 64 };
 }
 
-// The set with session s.
-pub fn put(w: u32, s: u32) -> u32
-    requires { s < 32 }
-    ensures { result ≡ put s w }
-{
-    w | (1u32 << s)
+// A set of sessions.
+impl Word for u32 {
+    ghost WIDTH = { 32 };
+
+    ghost value = { λ w. w };
+
+    ghost at_most_64 = { Prim.search rules };
+
+    const WIDTH: u32 = 32;
+
+    fn bits(self) -> u64 {
+        self as u64
+    }
+
+    fn from_bits(n: u64) -> u32 {
+        n as u32
+    }
 }
 
-// The set without session s.
-pub fn cut(w: u32, s: u32) -> u32
-    requires { s < 32 }
-    ensures { result ≡ cut s w }
-{
-    w & !(1u32 << s)
+// A set of links.
+impl Word for u64 {
+    ghost WIDTH = { 64 };
+
+    ghost value = { λ w. w };
+
+    ghost at_most_64 = { Prim.search rules };
+
+    const WIDTH: u32 = 64;
+
+    fn bits(self) -> u64 {
+        self
+    }
+
+    fn from_bits(n: u64) -> u64 {
+        n
+    }
 }
 
-// Whether session s is a member.
-pub fn has(w: u32, s: u32) -> bool
-    requires { s < 32 }
-    ensures { result ≡ has_of s w }
+// The set of s alone.
+pub fn only<W: Word>(s: u32) -> W
+    requires { s < W.WIDTH }
+    ensures { W.value result ≡ only_of s }
 {
-    (w >> s) % 2 == 1
+    W::from_bits(1u64 << (s as u64))
+}
+
+// The set with s.
+pub fn put<W: Word>(w: W, s: u32) -> W
+    requires { s < W.WIDTH }
+    ensures { W.value result ≡ put s (W.value w) }
+{
+    W::from_bits(w.bits() | (1u64 << (s as u64)))
+}
+
+// The set without s.
+pub fn cut<W: Word>(w: W, s: u32) -> W
+    requires { s < W.WIDTH }
+    ensures { W.value result ≡ cut s (W.value w) }
+{
+    W::from_bits(w.bits() & !(1u64 << (s as u64)))
+}
+
+// Whether s is a member: a number past the last digit never is.
+pub fn has<W: Word>(w: W, s: u32) -> bool
+    ensures { result ≡ has_of s (W.value w) }
+{
+    let n = w.bits();
+    s < 64 && (n >> (s as u64)) % 2 == 1
 }
 
 // How many members: the count of ones.
-pub fn size(w: u32) -> u32
-    ensures { result ≡ size_of w }
+pub fn size<W: Word>(w: W) -> u32
+    ensures { result ≡ ones_in W.WIDTH (W.value w) }
 {
-    u32::count_ones(w)
+    u64::count_ones(w.bits())
 }
 
-// The next session to visit: the lowest set bit, or 32 where there is none.
-pub fn next(w: u32) -> u32
-    ensures { result ≡ next_of w }
+// The next to visit: the lowest set bit, or the width where there is none.
+pub fn next<W: Word>(w: W) -> u32
+    ensures { result ≡ count_trailing_zeros W.WIDTH (W.value w) }
 {
-    u32::trailing_zeros(w)
+    u64::trailing_zeros(w.bits()).min(W::WIDTH)
 }
 
-// The set of one link.
-pub fn only_link(e: u32) -> u64
-    requires { e < 64 }
-    ensures { result ≡ only_of e }
-{
-    1u64 << (e as u64)
+// The members that are left to visit, by rising number.
+#[derive(Clone, Copy, Drop)]
+pub struct Rising<W> {
+    left: W,
 }
 
-// The set with link e.
-pub fn put_link(w: u64, e: u32) -> u64
-    requires { e < 64 }
-    ensures { result ≡ put e w }
-{
-    w | (1u64 << (e as u64))
-}
+impl<W: Word> Iterator for Rising<W> {
+    type Item = u32;
 
-// The set without link e.
-pub fn cut_link(w: u64, e: u32) -> u64
-    requires { e < 64 }
-    ensures { result ≡ cut e w }
-{
-    w & !(1u64 << (e as u64))
-}
+    ghost next_gives = { λ s r t. GivesMember W.WIDTH (W.value s.left) r (W.value t.left) };
 
-// Whether link e is a member: a number above 63 never is.
-pub fn has_link(w: u64, e: u32) -> bool
-    ensures { result ≡ has_of e w }
-{
-    if 64 <= e {
-        return false;
+    ghost remaining = { λ s. at_most (length (members_from W.WIDTH 0 (W.value s.left))) };
+
+    fn next(&mut self) -> Option<u32> {
+        let s = next(self.left);
+        if s == W::WIDTH {
+            return None;
+        }
+        self.left = cut(self.left, s);
+        Some(s)
     }
-    (w >> (e as u64)) % 2 == 1
 }
 
-// The next link to visit: the lowest set bit, or 64 where there is none.
-pub fn next_link(w: u64) -> u32
-    ensures { result ≡ next_link_of w }
+// The members by rising number: `for s in sessions::each(w)` visits each once.
+pub fn each<W: Word>(w: W) -> Rising<W>
+    ensures { result.left ≡ w }
 {
-    u64::trailing_zeros(w)
-}
-
-// How many links.
-pub fn size_links(w: u64) -> u32
-    ensures { result ≡ ones_in 64 w }
-{
-    u64::count_ones(w)
+    Rising { left: w }
 }

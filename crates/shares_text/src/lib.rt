@@ -1,19 +1,11 @@
 // What `shares` prints for an input (01, "Examples"): every session's max-min fair rate and its binding place, or the refusal.
 #![tactic(auto)]
 
-use calculation::Calculated;
-use records::Refusal;
 use std::io;
-
-// `refused N at P`, and nothing else.
-fn print_refusal(rt: &impl Print, refusal: Refusal, place: usize) -> io::Result<()> {
-    let number = records::number(refusal);
-    println!(rt; "refused {number} at {place}")
-}
 
 // How many links and sessions are declared.
 fn print_header(rt: &impl Print, links: u64, sessions: u32) -> io::Result<()> {
-    let declared = u64::count_ones(links);
+    let declared = sessions::size(links);
     let active = sessions::size(sessions);
     println!(rt; "links {declared} sessions {active}")
 }
@@ -30,30 +22,27 @@ fn print_session(rt: &impl Print, t: u32, num: u64, den: u64, place: u64) -> io:
 fn print_sessions(
     rt: &impl Print,
     sessions: u32,
-    nums: [u64; 32],
-    dens: [u64; 32],
-    places: [u64; 32],
+    nums: &[u64; 32],
+    dens: &[u64; 32],
+    places: &[u64; 32],
 ) -> io::Result<()> {
-    let mut left = sessions;
-    while left != 0 {
-        let t = sessions::next(left);
+    for t in sessions::each(sessions) {
         let i = t as usize;
         print_session(rt, t, nums[i], dens[i], places[i])?;
-        left = sessions::cut(left, t);
     }
     Ok(())
 }
 
-// The text of the calculation of these records. What is written is no part of a contract.
+// The text of the calculation of these records. What is written is no part of a contract. Three arrays, and 64 for "own": `calculate` is called so from C.
 pub fn print(rt: &impl Print, s: &[u8]) -> io::Result<()> {
     let mut nums = [0u64; 32];
     let mut dens = [0u64; 32];
     let mut places = [0u64; 32];
     match calculation::calculate(s, &mut nums, &mut dens, &mut places) {
-        Calculated::Refused { refusal, place } => print_refusal(rt, refusal, place),
-        Calculated::Done { links, sessions } => {
-            print_header(rt, links, sessions)?;
-            print_sessions(rt, sessions, nums, dens, places)
+        Ok(declared) => {
+            print_header(rt, declared.links, declared.sessions)?;
+            print_sessions(rt, declared.sessions, &nums, &dens, &places)
         }
+        Err(refused) => println!(rt; "{refused}"),
     }
 }

@@ -20,10 +20,8 @@ use Rattle.links.specs.declared.Bound.{Bound}
 use Rattle.links.specs.declared.Bound.TheVariants as bound
 use Rattle.links.specs.declared.Entry.{Entry}
 use Rattle.links.specs.declared.Place.{Place}
-use Rattle.links.specs.declared.Wanted.{Wanted}
-use Rattle.links.specs.declared.Wanted.TheVariants as wanted
 use Rattle.links.specs.FCheck.{check_of, higher_of, highest_of, turn_of}
-use Rattle.links.specs.Links.{B, F, add_if, is_fine, rate_at, some_of, those_of}
+use Rattle.links.specs.Links.{B, F, add_if, is_fine, rate_at, some_of, those_of, at_least, has_other_rate}
 use Rattle.records.proofs.Somes.{clash, not_so}
 use Rattle.sessions.specs.Set.{has, put}
 use Rattle.sessions.proofs.Members.{has_lt, has_put_other, has_put_same}
@@ -34,7 +32,7 @@ use Rattle.soundness.proofs.Weights.{walk_adds, weight_at, weight_le, weight_put
 
 -- line 5: ∃ s ∈ F : λ_s ≥ B
 abbrev pub line5 : Place → Bool
-line5 p = some_of (wanted.AtLeast (B p)) p.entries (F p)
+line5 p = some_of (at_least (B p)) p.entries (F p)
 
 -- q is a stage of the check of p: p itself, or what a turn makes of a stage where line 5 holds. The check reads B of its stages and of no other link
 pub data Stage (p : Place) : Place → Type 0 where
@@ -51,7 +49,7 @@ record OfMember (p : Place) (m : Rate) : Type 0 where
   rate : rate_at p who ≡ m
 
 -- where some member is chosen, there is one
-some_member : (a : Wanted) (es : List Entry) (w : ℕ) → some_of a es w ≡ true → (s : ℕ) × (s < 32) × (has s w ≡ 1)
+some_member : (a : Entry → Bool) (es : List Entry) (w : ℕ) → some_of a es w ≡ true → (s : ℕ) × (s < 32) × (has s w ≡ 1)
 some_member a es w t = go (eqb-false (those_of a es w) 0 (not_true (eqb (those_of a es w) 0) t))
   where
     go : (those_of a es w ≡ 0 → ⊥) → (s : ℕ) × (s < 32) × (has s w ≡ 1)
@@ -104,9 +102,9 @@ count_less v w s l h n e = omega (arith, weight_put v s (λ r. 1) l n, weight_le
 turn_less : (p : Place) → line5 p ≡ true → count (F (turn_of p)) < count (F p)
 unfolding turn_of
 turn_less p t =
-    let s = some_member (wanted.AtLeast (B p)) p.entries (F p) t in
+    let s = some_member (at_least (B p)) p.entries (F p) t in
     let m = highest_of_lem p s.0 s.1 s.2 in
-    let other = wanted.Other (highest_of p) in
+    let other = has_other_rate (highest_of p) in
     count_less (those_of other p.entries (F p)) (F p) m.who m.low m.member
     (those_out other p.entries (F p) m.who (λ h f. not_other (rate_at p m.who) (highest_of p) m.rate f))
     (has_those_le other p.entries (F p))
@@ -137,7 +135,7 @@ one_more (suc k) p h = go (line5 p) _ _ (λ t. one_more k (turn_of p) (omega (ar
     go false x y e = refl
 
 -- after the check no member of F has a rate of at least B. Where B is too fine no comparison holds, so it is so there too
-pub check_done_lem : (p : Place) → some_of (wanted.AtLeast (B (check_of 32 p))) (check_of 32 p).entries (F (check_of 32 p)) ≡ false
+pub check_done_lem : (p : Place) → some_of (at_least (B (check_of 32 p))) (check_of 32 p).entries (F (check_of 32 p)) ≡ false
 check_done_lem p = done_by 32 p (count_to_32 (F p))
 
 -- so the check is a loop without a count: where line 5 holds, a turn and then the check again, and else nothing
@@ -166,14 +164,14 @@ stage_check begin = refl
 stage_check (turned {q} g t) = sym (loop_turns q t) ∙ stage_check g
 
 -- no rate compares with a B that is too fine, so line 5 does not hold there
-none_at_too_fine : (es : List Entry) (w : ℕ) → those_of (wanted.AtLeast bound.TooFine) es w ≡ 0
+none_at_too_fine : (es : List Entry) (w : ℕ) → those_of (at_least bound.TooFine) es w ≡ 0
 unfolding those_of
-none_at_too_fine es w = walk_keeps (λ v. v ≡ 0) (add_if (wanted.AtLeast bound.TooFine) es) 32 w (λ v s l e. e) 0 refl
+none_at_too_fine es w = walk_keeps (λ v. v ≡ 0) (add_if (at_least bound.TooFine) es) 32 w (λ v s l e. e) 0 refl
 
 too_fine_stops : (p : Place) → is_fine (B p) ≡ false → line5 p ≡ false
 too_fine_stops p = go (B p)
   where
-    go : (b : Bound) → is_fine b ≡ false → some_of (wanted.AtLeast b) p.entries (F p) ≡ false
+    go : (b : Bound) → is_fine b ≡ false → some_of (at_least b) p.entries (F p) ≡ false
     go (bound.At b) e = absurd (clash true refl e)
     go bound.Above e = absurd (clash true refl e)
     go bound.TooFine e = ap not (eq-eqb _ _ (none_at_too_fine p.entries (F p)))

@@ -13,17 +13,16 @@ use borrow.Author.Tests.{eq-eqb, ne_eqb}
 use Rattle.fairness.specs.Sum.{part}
 use Rattle.fractions.proofs.Cases.{cases}
 use Rattle.links.specs.declared.Entry.{Entry}
-use Rattle.links.specs.declared.Wanted.{Wanted}
-use Rattle.links.specs.Links.{add_if, meets_of, no_entry, those_of}
+use Rattle.links.specs.Links.{add_if, no_entry, those_of}
 use Rattle.records.proofs.Somes.{clash}
 use Rattle.sessions.specs.Set.{has, put}
 use Rattle.sessions.proofs.Members.{has_lt, has_or_not, has_put_other, has_put_same, has_zero, put_lt}
 use Rattle.sessions.proofs.Walks.{walk_keeps}
 use Rattle.soundness.proofs.Weights.{walk_adds, weight_at}
 
-module _ (a : Wanted) (es : List Entry) where
+module _ (a : Entry → Bool) (es : List Entry) where
   abbrev meets : ℕ → Bool
-  meets s = meets_of a (get_or es s no_entry)
+  meets s = a (get_or es s no_entry)
 
   -- one member asked: what becomes of another, and of itself
   add_other : (w s j : ℕ) → (j ≡ s → ⊥) → has s (add_if a es w j) ≡ has s w

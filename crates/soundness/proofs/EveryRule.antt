@@ -1,5 +1,6 @@
 -- Every rule of Figure 2 does what `LinkDid` says, whatever the packet: a sound link stays sound.
 -- Assumes nothing.
+use Rattle.std.specs.Prelude.{Some}
 use mathlib.Core.Bool.{true, ◌&&◌}
 use mathlib.Core.Path.{refl}
 use Prim.Native.Nat.{ℕ, ◌<◌}
@@ -10,7 +11,6 @@ use Rattle.links.specs.Links.{R, awaits_response, holds, in_r, mu_at}
 use Rattle.table.specs.Values.{KindWithin}
 use Rattle.tasks.specs.declared.Kind.{Kind}
 use Rattle.tasks.specs.declared.Kind.TheVariants as kind
-use Rattle.tasks.specs.declared.Onward.TheVariants as onward
 use Rattle.tasks.specs.Figure2.{link_step_of}
 use Rattle.soundness.specs.LinkDid.{LinkDid}
 use Rattle.soundness.specs.Sound.{Sound}
@@ -42,5 +42,5 @@ did_link e s kind.Leave p le ls z w =
     cases (LinkDid s kind.Leave p) (holds p s) _ _
     (λ h. did_leave s p ls z)
     (λ h.
-    did_nothing s kind.Leave p (onward.Send kind.Leave) true z (λ t i. omega (arith, (not_held p s h).0, (not_held p s h).1, i.some))
+    did_nothing s kind.Leave p (Some kind.Leave) true z (λ t i. omega (arith, (not_held p s h).0, (not_held p s h).1, i.some))
     (record { within = tt; way = refl; leave = refl; join = refl }))

@@ -1,5 +1,6 @@
 -- A session that is in R and waits for a response goes on waiting, until its own Response reaches the link or the link no longer holds it.
 -- Assumes nothing.
+use Rattle.std.specs.Prelude.{Some}
 use mathlib.Core.Bool.{Bool, cond, false, true, ◌&&◌}
 use mathlib.Core.Logic.{◌⊎◌, inl, inr}
 use mathlib.Core.Path.{◌≡◌, refl, subst, sym}
@@ -20,7 +21,6 @@ use Rattle.tasks.specs.declared.Did.{Did}
 use Rattle.tasks.specs.declared.Eta.{Eta}
 use Rattle.tasks.specs.declared.Kind.{Kind}
 use Rattle.tasks.specs.declared.Kind.TheVariants as kind
-use Rattle.tasks.specs.declared.Onward.TheVariants as onward
 use Rattle.tasks.specs.declared.Tau.{Tau}
 use Rattle.tasks.specs.declared.Tau.TheVariants as tau
 use Rattle.tasks.specs.Figure2.{accepted_of, agreed_of, answered_of, bottleneck_of, freed_of, idle_at_b, join_of, leave_of, link_step_of, probe_of, quiet, response_of, restricted_of, set_bottleneck_of, staying_of, update_of, without_of}
@@ -140,8 +140,8 @@ keeps_waiting e s r kind.Bottleneck p l z w h = inl (cases (WaitingAfter r) (hol
 keeps_waiting e s r (kind.SetBottleneck β) p l z w h = inl (cases (WaitingAfter r) (holds p s) _ _ (λ t. set_keeps e s r p l z w β) (λ t. w))
 keeps_waiting e s r kind.Leave p l z w h = inl (go (holds p s) refl h)
   where
-    go : (t : Bool) → holds p s ≡ t → Held (cond t (leave_of s p) (quiet p (onward.Send kind.Leave) true)).place r
-        → Waiting (cond t (leave_of s p) (quiet p (onward.Send kind.Leave) true)).place r
+    go : (t : Bool) → holds p s ≡ t → Held (cond t (leave_of s p) (quiet p (Some kind.Leave) true)).place r
+        → Waiting (cond t (leave_of s p) (quiet p (Some kind.Leave) true)).place r
     go false t h = w
     go true t h = at (ℕ_discrete s r)
       where

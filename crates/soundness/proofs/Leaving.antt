@@ -1,5 +1,6 @@
 -- The rules by which a session goes out of R or out of the link: SetBottleneck and Leave.
 -- Assumes nothing.
+use Rattle.std.specs.Prelude.{Some}
 use mathlib.Core.Bool.{Bool, true, ◌&&◌}
 use mathlib.Core.Logic.{◌⊎◌, inl, inr}
 use mathlib.Core.Path.{◌≡◌, refl}
@@ -10,13 +11,11 @@ use Rattle.fractions.proofs.Cases.{and_both, cases}
 use Rattle.links.specs.declared.Entry.{Entry}
 use Rattle.links.specs.declared.Mu.TheVariants as mu
 use Rattle.links.specs.declared.Place.{Place}
-use Rattle.links.specs.declared.Wanted.TheVariants as wanted
-use Rattle.links.specs.Links.{B, F, R, all_at_b, below_b, entry, equals_b, in_f, is_fine, is_idle, mu_at, rate_at, with_entry, with_words}
+use Rattle.links.specs.Links.{B, F, R, all_at_b, below_b, entry, equals_b, in_f, is_fine, is_idle, mu_at, rate_at, with_entry, with_words, idle_at}
 use Rattle.sessions.specs.Set.{cut, has, put}
 use Rattle.sessions.proofs.Members.{cut_le, has_cut_le, has_cut_same, has_lt, has_or_not, is_in, is_out}
 use Rattle.tasks.specs.declared.Kind.{Kind}
 use Rattle.tasks.specs.declared.Kind.TheVariants as kind
-use Rattle.tasks.specs.declared.Onward.TheVariants as onward
 use Rattle.tasks.specs.Figure2.{freed_of, idle_at_b, leave_of, quiet, set_bottleneck_of, without_of}
 use Rattle.soundness.specs.LinkDid.{LinkDid, PassedOn}
 use Rattle.soundness.specs.Sound.{Held, Sound}
@@ -52,16 +51,16 @@ module _ (s : ℕ) (β : Bool) (p : Place) (l : s < 32) (z : Sound p) (h : Held 
       let q = with_words p (cut s (R p)) (put s (F p)) in
       let all : (r : ℕ) → has r (cut s (R p)) + has r (put s (F p)) ≡ has r (R p) + has r (F p) =
       λ r. move_all (R p) (F p) s r (omega (arith, z.apart s, h.some)) in
-      did_updating s setting p q (idle_at_b (B p) p (R p)) (onward.Send setting) (is_fine (B q)) (free_sound p s l z h e) refl
+      did_updating s setting p q (idle_at_b (B p) p (R p)) (Some setting) (is_fine (B q)) (free_sound p s l z h e) refl
       (λ r i. inl (record { some = omega (arith, all r, i.some) }))
       (no_leave setting refl)
-      (those_lt (wanted.IdleAt (B p)) p.entries (R p))
-      (λ r i. record { some = omega (arith, all r, has_those_le (wanted.IdleAt (B p)) p.entries (R p) r, i) })
+      (those_lt (idle_at (B p)) p.entries (R p))
+      (λ r i. record { some = omega (arith, all r, has_those_le (idle_at (B p)) p.entries (R p) r, i) })
       (passed β)
       (λ t. t)
 
-  did_stay : (γ fine : Bool) → LinkDid s setting p (quiet p (onward.Send (kind.SetBottleneck γ)) fine)
-  did_stay γ fine = did_nothing s setting p (onward.Send (kind.SetBottleneck γ)) fine z (no_leave setting refl) (passed γ)
+  did_stay : (γ fine : Bool) → LinkDid s setting p (quiet p (Some (kind.SetBottleneck γ)) fine)
+  did_stay γ fine = did_nothing s setting p (Some (kind.SetBottleneck γ)) fine z (no_leave setting refl) (passed γ)
 
   pub did_set : LinkDid s setting p (set_bottleneck_of s β p)
   unfolding set_bottleneck_of
@@ -126,10 +125,10 @@ unfolding leave_of
 did_leave s p l z =
     let q = without_of s p in
     let w = without s p l z in
-    did_updating s kind.Leave p q (idle_at_b (B p) p (cut s (R p))) (onward.Send kind.Leave) (is_fine (B p) && is_fine (B q)) w.sound w.capacity
+    did_updating s kind.Leave p q (idle_at_b (B p) p (cut s (R p))) (Some kind.Leave) (is_fine (B p) && is_fine (B q)) w.sound w.capacity
     (λ r h. inl (w.fewer r h))
     (λ t h. w.gone h)
-    (those_lt (wanted.IdleAt (B p)) p.entries (cut s (R p)))
-    (λ r h. w.stays r (omega (arith, h, has_those_le (wanted.IdleAt (B p)) p.entries (cut s (R p)) r, has_lt r (cut s (R p)))))
+    (those_lt (idle_at (B p)) p.entries (cut s (R p)))
+    (λ r h. w.stays r (omega (arith, h, has_those_le (idle_at (B p)) p.entries (cut s (R p)) r, has_lt r (cut s (R p)))))
     (record { within = tt; way = refl; leave = refl; join = refl })
     (λ t. (and_both (is_fine (B p)) (is_fine (B q)) t).1)

@@ -13,9 +13,8 @@ use Rattle.fractions.specs.Fraction.{same_of}
 use Rattle.fractions.proofs.Cases.{cases, order}
 use Rattle.links.specs.declared.Entry.{Entry}
 use Rattle.links.specs.declared.Place.{Place}
-use Rattle.links.specs.declared.Wanted.TheVariants as wanted
 use Rattle.links.specs.FCheck.{check_of, highest_of, turn_of}
-use Rattle.links.specs.Links.{B, F, R, no_entry, some_of, those_of}
+use Rattle.links.specs.Links.{B, F, R, no_entry, some_of, those_of, at_least, has_other_rate, has_rate}
 use Rattle.sessions.specs.Set.{has}
 use Rattle.sessions.proofs.Members.{has_high}
 use Rattle.sessions.proofs.Operations.{has_or}
@@ -55,24 +54,24 @@ moved_trans a b = record {
 
 -- the members of f with the rate m go to r, and the others stay
 split : (es : List Entry) (m : Rate) (r f : ℕ) → r < 2 ^ 32 → f < 2 ^ 32 → ((s : ℕ) → has s r + has s f ≤ 1) → (s : ℕ)
-    → has s (bit_or r (those_of (wanted.Equal m) es f)) + has s (those_of (wanted.Other m) es f) ≡ has s r + has s f
+    → has s (bit_or r (those_of (has_rate m) es f)) + has s (those_of (has_other_rate m) es f) ≡ has s r + has s f
 split es m r f hr hf a s = go (order 32 s)
   where
     digits : (t : Bool) (x y : ℕ) → x + y ≤ 1 → max x (cond t y 0) + cond (not t) y 0 ≡ x + y
     digits true x y h = omega arith
     digits false x y h = omega arith
 
-    go : (32 ≤ s) ⊎ (s < 32) → has s (bit_or r (those_of (wanted.Equal m) es f)) + has s (those_of (wanted.Other m) es f) ≡ has s r + has s f
+    go : (32 ≤ s) ⊎ (s < 32) → has s (bit_or r (those_of (has_rate m) es f)) + has s (those_of (has_other_rate m) es f) ≡ has s r + has s f
     go (inl b) =
         omega (
           arith,
-          has_high 32 s (bit_or r (those_of (wanted.Equal m) es f)) (or_lt 32 r (those_of (wanted.Equal m) es f) hr (those_lt (wanted.Equal m) es f)) b,
-          has_high 32 s (those_of (wanted.Other m) es f) (those_lt (wanted.Other m) es f) b,
+          has_high 32 s (bit_or r (those_of (has_rate m) es f)) (or_lt 32 r (those_of (has_rate m) es f) hr (those_lt (has_rate m) es f)) b,
+          has_high 32 s (those_of (has_other_rate m) es f) (those_lt (has_other_rate m) es f) b,
           has_high 32 s r hr b,
           has_high 32 s f hf b,
         )
     go (inr l) =
-        rw (has_or s r (those_of (wanted.Equal m) es f), has_those (wanted.Equal m) es f s l, has_those (wanted.Other m) es f s l)
+        rw (has_or s r (those_of (has_rate m) es f), has_those (has_rate m) es f s l, has_those (has_other_rate m) es f s l)
         (digits (same_of (get_or es s no_entry).rate m) (has s r) (has s f) (a s))
 
 pub turn_moved : (p : Place) → Sound p → Moved p (turn_of p)
@@ -82,16 +81,16 @@ turn_moved p o =
     record {
       entries = refl;
       capacity = refl;
-      r32 = or_lt 32 (R p) (those_of (wanted.Equal m) p.entries (F p)) o.r32 (those_lt (wanted.Equal m) p.entries (F p));
-      f32 = those_lt (wanted.Other m) p.entries (F p);
+      r32 = or_lt 32 (R p) (those_of (has_rate m) p.entries (F p)) o.r32 (those_lt (has_rate m) p.entries (F p));
+      f32 = those_lt (has_other_rate m) p.entries (F p);
       all = split p.entries m (R p) (F p) o.r32 o.f32 o.apart;
-      less = has_those_le (wanted.Other m) p.entries (F p);
+      less = has_those_le (has_other_rate m) p.entries (F p);
     }
 
 pub check_moved : (k : ℕ) (p : Place) → Sound p → Moved p (check_of k p)
 unfolding check_of
 check_moved zero p o = moved_refl p o
 check_moved (suc k) p o =
-    cases (Moved p) (some_of (wanted.AtLeast (B p)) p.entries (F p)) (check_of k (turn_of p)) p
+    cases (Moved p) (some_of (at_least (B p)) p.entries (F p)) (check_of k (turn_of p)) p
     (λ e. moved_trans (turn_moved p o) (check_moved k (turn_of p) (sound_moved p (turn_of p) o (turn_moved p o))))
     (λ e. moved_refl p o)

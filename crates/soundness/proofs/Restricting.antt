@@ -1,5 +1,6 @@
 -- The rules by which a session comes to R: Join and Probe. Both go on with ProcessNewRestricted, and pass the packet on with its rate lowered to B.
 -- Assumes nothing.
+use Rattle.std.specs.Prelude.{Some}
 use mathlib.Core.Bool.{false, true}
 use mathlib.Core.Logic.{◌⊎◌, inl, inr}
 use mathlib.Core.Path.{◌≡◌, refl, subst, sym, ◌∙◌}
@@ -14,9 +15,8 @@ use Rattle.links.specs.declared.Bound.TheVariants as bound
 use Rattle.links.specs.declared.Entry.{Entry}
 use Rattle.links.specs.declared.Mu.TheVariants as mu
 use Rattle.links.specs.declared.Place.{Place}
-use Rattle.links.specs.declared.Wanted.TheVariants as wanted
 use Rattle.links.specs.FCheck.{check_of, over_b, process_of}
-use Rattle.links.specs.Links.{B, F, R, above_b, entry, holds, in_f, is_fine, rate_at, with_entry, with_mu, with_words}
+use Rattle.links.specs.Links.{B, F, R, above_b, entry, holds, in_f, is_fine, rate_at, with_entry, with_mu, with_words, idle_above}
 use Rattle.sessions.specs.Set.{cut, has, put}
 use Rattle.sessions.proofs.Members.{cut_le, has_cut_le, has_put_other, has_put_same, is_in, put_lt}
 use Rattle.table.specs.Values.{EtaInRange, KindWithin}
@@ -25,7 +25,6 @@ use Rattle.tasks.specs.declared.Eta.{Eta}
 use Rattle.tasks.specs.declared.Eta.TheVariants as eta
 use Rattle.tasks.specs.declared.Kind.{Kind}
 use Rattle.tasks.specs.declared.Kind.TheVariants as kind
-use Rattle.tasks.specs.declared.Onward.TheVariants as onward
 use Rattle.tasks.specs.Figure2.{did, join_of, lowered_of, named_of, probe_of, restricted_of, staying_of}
 use Rattle.tasks.specs.Packets.{is_leave}
 use Rattle.soundness.specs.LinkDid.{LinkDid, PassedOn, is_join}
@@ -62,16 +61,16 @@ did_process : (s : ℕ) (k j : Kind) (p v : Place) → Sound v → v.link.capaci
     → ((r : ℕ) → Held v r → Held p r ⊎ ((r ≡ s) × (is_join k ≡ true)))
     → is_leave k ≡ false
     → PassedOn k j
-    → LinkDid s k p (did (process_of v).place burst.Update (process_of v).to (onward.Send j) (is_fine (process_of v).bound))
+    → LinkDid s k p (did (process_of v).place burst.Update (process_of v).to (Some j) (is_fine (process_of v).bound))
 unfolding process_of
 did_process s k j p v z c h n w =
     let q = check_of 32 v in
     let m = check_moved 32 v z in
-    did_updating s k p q (over_b q) (onward.Send j) (is_fine (B q)) (sound_moved v q z m) (m.capacity ∙ c)
+    did_updating s k p q (over_b q) (Some j) (is_fine (B q)) (sound_moved v q z m) (m.capacity ∙ c)
     (λ r i. h r (record { some = omega (arith, m.all r, i.some) }))
     (no_leave k n)
-    (those_lt (wanted.IdleAbove (B q)) q.entries (R q))
-    (λ r i. record { some = omega (arith, i, has_those_le (wanted.IdleAbove (B q)) q.entries (R q) r) })
+    (those_lt (idle_above (B q)) q.entries (R q))
+    (λ r i. record { some = omega (arith, i, has_those_le (idle_above (B q)) q.entries (R q) r) })
     w
     (λ t. t)
 
@@ -155,7 +154,7 @@ module _ (e s : ℕ) (x : Rate) (η : Eta) (p : Place) (le : e < 64) (ls : s < 3
   unfolding staying_of
   did_staying =
       let b = B probing in
-      did_mu s (kind.Probe x η) p z refl mu.WaitingResponse (onward.Send (kind.Probe (lowered_of b x) (named_of b x e η))) (is_fine b)
+      did_mu s (kind.Probe x η) p z refl mu.WaitingResponse (Some (kind.Probe (lowered_of b x) (named_of b x e η))) (is_fine b)
       (passed b (λ c q. b_within probing c (mu_sound p s mu.WaitingResponse z) q))
 
   pub did_probe : LinkDid s (kind.Probe x η) p (probe_of e s x η p)

@@ -1,6 +1,7 @@
 -- What a rule does where it keeps the words, and where it changes them and updates sessions; and the rules that keep them: Update, Bottleneck and
 -- Response.
 -- Assumes nothing.
+use Rattle.std.specs.Prelude.{None, Option, Some}
 use mathlib.Core.Bool.{Bool, false, true, ◌&&◌}
 use mathlib.Core.List.{List}
 use mathlib.Core.Logic.{◌⊎◌, inl}
@@ -24,8 +25,6 @@ use Rattle.table.specs.Values.{KindWithin}
 use Rattle.tasks.specs.declared.Eta.{Eta}
 use Rattle.tasks.specs.declared.Kind.{Kind}
 use Rattle.tasks.specs.declared.Kind.TheVariants as kind
-use Rattle.tasks.specs.declared.Onward.{Onward}
-use Rattle.tasks.specs.declared.Onward.TheVariants as onward
 use Rattle.tasks.specs.declared.Tau.{Tau}
 use Rattle.tasks.specs.declared.Tau.TheVariants as tau
 use Rattle.tasks.specs.Figure2.{accepted_of, agreed_of, answered_of, bottleneck_of, quiet, response_of, update_of, updating}
@@ -44,7 +43,7 @@ pub no_leave : {A : Type 0} (k : Kind) → is_leave k ≡ false → is_leave k �
 no_leave k e f = absurd (clash (is_leave k) f e)
 
 -- a rule that keeps the words and the rates of F
-pub did_quiet : (s : ℕ) (k : Kind) (p : Place) (es : List Entry) (o : Onward) (fine : Bool) → Sound (with_entries p es) → SameF p es
+pub did_quiet : (s : ℕ) (k : Kind) (p : Place) (es : List Entry) (o : Option Kind) (fine : Bool) → Sound (with_entries p es) → SameF p es
     → (is_leave k ≡ true → Held p s → ⊥)
     → GoesOn k o
     → LinkDid s k p (quiet (with_entries p es) o fine)
@@ -60,12 +59,12 @@ did_quiet s k p es o fine z a g w = record {
 }
 
 -- one that leaves the link as it is
-pub did_nothing : (s : ℕ) (k : Kind) (p : Place) (o : Onward) (fine : Bool) → Sound p → (is_leave k ≡ true → Held p s → ⊥) → GoesOn k o
+pub did_nothing : (s : ℕ) (k : Kind) (p : Place) (o : Option Kind) (fine : Bool) → Sound p → (is_leave k ≡ true → Held p s → ⊥) → GoesOn k o
     → LinkDid s k p (quiet p o fine)
 did_nothing s k p o fine z g w = did_quiet s k p p.entries o fine z (λ r l h. refl) g w
 
 -- a rule that changes the words, and updates sessions that it holds then
-pub did_updating : (s : ℕ) (k : Kind) (p q : Place) (w : ℕ) (o : Onward) (fine : Bool) → Sound q → q.link.capacity ≡ p.link.capacity
+pub did_updating : (s : ℕ) (k : Kind) (p q : Place) (w : ℕ) (o : Option Kind) (fine : Bool) → Sound q → q.link.capacity ≡ p.link.capacity
     → ((r : ℕ) → Held q r → Held p r ⊎ ((r ≡ s) × (is_join k ≡ true)))
     → (is_leave k ≡ true → Held q s → ⊥)
     → w < 2 ^ 32
@@ -89,18 +88,18 @@ did_updating s k p q w o fine z c h g l u v f = record {
 
 -- a state changes, and no rate
 module _ (s : ℕ) (k : Kind) (p : Place) (z : Sound p) (n : is_leave k ≡ false) where
-  pub did_mu : (m : Mu) (o : Onward) (fine : Bool) → GoesOn k o → LinkDid s k p (quiet (with_mu p s m) o fine)
+  pub did_mu : (m : Mu) (o : Option Kind) (fine : Bool) → GoesOn k o → LinkDid s k p (quiet (with_mu p s m) o fine)
   did_mu m o fine w =
       did_quiet s k p (with_mu p s m).entries o fine (mu_sound p s m z) (λ r l h. (mu_alike p s m).same r) (no_leave k n) w
 
-  pub did_drop : (fine : Bool) → LinkDid s k p (quiet p onward.Nothing fine)
-  did_drop fine = did_nothing s k p onward.Nothing fine z (no_leave k n) n
+  pub did_drop : (fine : Bool) → LinkDid s k p (quiet p None fine)
+  did_drop fine = did_nothing s k p None fine z (no_leave k n) n
 
 pub did_update : (s : ℕ) (p : Place) → Sound p → LinkDid s kind.Update p (update_of s p)
 unfolding update_of
 did_update s p z =
     cases (LinkDid s kind.Update p) (is_idle (mu_at p s)) _ _
-    (λ e. did_mu s kind.Update p z refl mu.WaitingProbe (onward.Send kind.Update) true (record { within = tt; way = refl; leave = refl; join = refl }))
+    (λ e. did_mu s kind.Update p z refl mu.WaitingProbe (Some kind.Update) true (record { within = tt; way = refl; leave = refl; join = refl }))
     (λ e. did_drop s kind.Update p z refl true)
 
 pub did_bottleneck : (s : ℕ) (p : Place) → Sound p → LinkDid s kind.Bottleneck p (bottleneck_of s p)
@@ -108,7 +107,7 @@ unfolding bottleneck_of
 did_bottleneck s p z =
     cases (LinkDid s kind.Bottleneck p) (is_idle (mu_at p s) && in_r p s) _ _
     (λ e.
-    did_nothing s kind.Bottleneck p (onward.Send kind.Bottleneck) true z (no_leave kind.Bottleneck refl)
+    did_nothing s kind.Bottleneck p (Some kind.Bottleneck) true z (no_leave kind.Bottleneck refl)
     (record { within = tt; way = refl; leave = refl; join = refl }))
     (λ e. did_drop s kind.Bottleneck p z refl true)
 
@@ -138,7 +137,7 @@ module _ (e s : ℕ) (τ : Tau) (x : Rate) (η : Eta) (p : Place) (le : e < 64) 
         on = record { within = (w.0, le); way = refl; leave = refl; join = refl };
         fine = λ u h. subst (λ (b : Bound). is_fine b ≡ true) (sym (b_alike p es a)) h;
       })
-      (λ t. did_quiet s here p es (onward.Send (kind.Response σ x η)) (is_fine b) o a (no_leave here refl) (passed σ))
+      (λ t. did_quiet s here p es (Some (kind.Response σ x η)) (is_fine b) o a (no_leave here refl) (passed σ))
 
   did_agreed : (σ : Tau) → LinkDid s here p (agreed_of e s σ x η p)
   unfolding agreed_of
@@ -153,7 +152,7 @@ pub did_response : (e s : ℕ) (τ : Tau) (x : Rate) (η : Eta) (p : Place) → 
     → LinkDid s (kind.Response τ x η) p (response_of e s τ x η p)
 unfolding response_of
 did_response e s tau.Update x η p le ls z w n =
-    did_mu s (kind.Response tau.Update x η) p z refl mu.WaitingProbe (onward.Send (kind.Response tau.Update x η)) true
+    did_mu s (kind.Response tau.Update x η) p z refl mu.WaitingProbe (Some (kind.Response tau.Update x η)) true
     (record { within = w; way = refl; leave = refl; join = refl })
 did_response e s tau.Response x η p le ls z w n = did_agreed e s tau.Response x η p le ls z w n tau.Response
 did_response e s tau.Bottleneck x η p le ls z w n = did_agreed e s tau.Bottleneck x η p le ls z w n tau.Bottleneck

@@ -1,6 +1,7 @@
 -- The packets of a session's probe cycle at a link: the link sends one on only in place of one, and a session whose Join or Probe goes on waits at
 -- the link for the response.
 -- Assumes nothing.
+use Rattle.std.specs.Prelude.{None}
 use mathlib.Core.Bool.{Bool, cond, false, true, ◌&&◌}
 use mathlib.Core.Path.{◌≡◌, refl}
 use Prim.Native.Nat.{ℕ, ◌<◌}
@@ -11,7 +12,6 @@ use Rattle.records.proofs.Somes.{clash}
 use Rattle.tasks.specs.declared.Did.{Did}
 use Rattle.tasks.specs.declared.Kind.{Kind}
 use Rattle.tasks.specs.declared.Kind.TheVariants as kind
-use Rattle.tasks.specs.declared.Onward.TheVariants as onward
 use Rattle.tasks.specs.Figure2.{bottleneck_of, freed_of, join_of, leave_of, link_step_of, probe_of, quiet, set_bottleneck_of, update_of}
 use Rattle.tasks.specs.Packets.{goes_down}
 use Rattle.soundness.specs.ProbeCycle.{Waiting, in_cycle, sends_cycle}
@@ -59,12 +59,12 @@ starts_where_sent : (e s : ℕ) (k : Kind) (p : Place) → sends_cycle (link_ste
 unfolding link_step_of
 starts_where_sent e s (kind.Join x η) p t c d = go (holds p s) t
   where
-    go : (h : Bool) → sends_cycle (cond h (quiet p onward.Nothing true) (join_of e s x η p)).on ≡ true → starts_to_wait (kind.Join x η) h ≡ true
+    go : (h : Bool) → sends_cycle (cond h (quiet p None true) (join_of e s x η p)).on ≡ true → starts_to_wait (kind.Join x η) h ≡ true
     go true u = u
     go false u = refl
 starts_where_sent e s (kind.Probe x η) p t c d = go (holds p s) t
   where
-    go : (h : Bool) → sends_cycle (cond h (probe_of e s x η p) (quiet p onward.Nothing true)).on ≡ true → starts_to_wait (kind.Probe x η) h ≡ true
+    go : (h : Bool) → sends_cycle (cond h (probe_of e s x η p) (quiet p None true)).on ≡ true → starts_to_wait (kind.Probe x η) h ≡ true
     go true u = refl
     go false u = u
 starts_where_sent e s (kind.Response τ x η) p t c d = d

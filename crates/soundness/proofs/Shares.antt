@@ -1,6 +1,7 @@
 -- B of a sound link: F never sums past C; B is a rate in range, the share of R's members in what F leaves; it goes by the words and the rates of F
 -- alone; and a session whose rate is below B may go to F.
 -- Assumes nothing.
+use Rattle.std.specs.Prelude.{Result, Ok, Err}
 use mathlib.Core.Bool.{true}
 use mathlib.Core.List.{List}
 use mathlib.Core.Path.{◌≡◌, ap, refl, subst, sym, ◌∙◌}
@@ -11,8 +12,7 @@ use native.Mathlib.Nat.{le_of_mul-le-mul_right, lt_of_mul-lt-mul_right, mul-le-m
 use native.Mathlib.Omega.{arith}
 use Rattle.fairness.proofs.CommonDenominator.{together}
 use Rattle.fractions.specs.declared.Rate.{Rate}
-use Rattle.fractions.specs.declared.Share.{Share}
-use Rattle.fractions.specs.declared.Share.TheVariants as share
+use Rattle.fractions.specs.declared.TooFine.{TooFine}
 use Rattle.fractions.specs.Fraction.{Lt, Within, each_of, max_rate, share_of, zero_of}
 use Rattle.fractions.proofs.LowestTerms.{lowest_same}
 use Rattle.fractions.proofs.Order.{lt_true}
@@ -22,8 +22,8 @@ use Rattle.links.specs.declared.Bound.{Bound}
 use Rattle.links.specs.declared.Bound.TheVariants as bound
 use Rattle.links.specs.declared.Entry.{Entry}
 use Rattle.links.specs.declared.Place.{Place}
-use Rattle.links.specs.declared.Total.{Total}
-use Rattle.links.specs.declared.Total.TheVariants as total
+use Rattle.links.specs.declared.NoTotal.{NoTotal}
+use Rattle.links.specs.declared.NoTotal.TheVariants as no_total
 use Rattle.links.specs.Links.{B, F, R, TotalSized, as_bound, below_b, bound_of, more_of, no_entry, rate_at, sum_of, waiting_of, with_words}
 use Rattle.links.proofs.Sizes.{sum_sized, workable_words}
 use Rattle.sessions.specs.Set.{cut, has, put, size_of}
@@ -44,11 +44,11 @@ over_one p o =
 comes : (N : ℕ) (x : ℕ → ℕ) (p : Place) → Sound p → Over N x p.entries → (s : ℕ) → s < 32 → has s (F p) ≡ 1 → Comes N (rate_at p s) (x s)
 comes N x p o c s l h = record { pos = (o.workable.rates.sized s l).pos; same = c.shown s l }
 
-pub sum_weighs : (N : ℕ) (x : ℕ → ℕ) (p : Place) (y : Rate) → Sound p → Over N x p.entries → sum_of p ≡ total.Rate y → Comes N y (weight (F p) x)
+pub sum_weighs : (N : ℕ) (x : ℕ → ℕ) (p : Place) (y : Rate) → Sound p → Over N x p.entries → sum_of p ≡ Ok y → Comes N y (weight (F p) x)
 sum_weighs N x p y o c e = members_weigh N x p c.pos (comes N x p o c) y e
 
 -- F never sums past C
-pub sound_not_past : (p : Place) → Sound p → sum_of p ≡ total.PastC → ⊥
+pub sound_not_past : (p : Place) → Sound p → sum_of p ≡ Err no_total.PastC → ⊥
 sound_not_past p o e =
     let g = over_one p o in
     omega (arith, past_weigh g.0 g.1 p g.2.pos (comes g.0 g.1 p o g.2) e, o.fits g.0 g.1 g.2)
@@ -62,7 +62,7 @@ b_alike p es h =
     let C = p.link.capacity in
     ap (bound_of C (size_of (R p)))
     (walk_cong (λ a s. more_of C a (get_or es s no_entry).rate) (λ a s. more_of C a (rate_at p s)) 32 (F p)
-    (λ s l m a. ap (more_of C a) (h s l m)) (total.Rate zero_of))
+    (λ s l m a. ap (more_of C a) (h s l m)) (Ok zero_of))
 
 pub b_waiting : (p : Place) (w : ℕ) → B (waiting_of p w) ≡ B p
 unfolding waiting_of
@@ -72,48 +72,48 @@ b_waiting p w = b_alike p (waiting_of p w).entries (λ s l m. (waiting_alike p w
 
 pub record IsShare (p : Place) (b : Rate) : Type 0 where
   pub taken : Rate
-  pub is_sum : sum_of p ≡ total.Rate taken
+  pub is_sum : sum_of p ≡ Ok taken
   pub some : 0 < size_of (R p)
-  pub is : share_of p.link.capacity taken (size_of (R p)) ≡ share.Rate b
+  pub is : share_of p.link.capacity taken (size_of (R p)) ≡ Ok b
 
 pub share_of_lem : (p : Place) (b : Rate) → Sound p → B p ≡ bound.At b → IsShare p b
 unfolding B bound_of
 share_of_lem p b o e = go (sum_of p) (size_of (R p)) refl refl e
   where
-    at : (y : Rate) (k : ℕ) → sum_of p ≡ total.Rate y → size_of (R p) ≡ suc k → (z : Share) → share_of p.link.capacity y (suc k) ≡ z → as_bound z ≡ bound.At b
+    at : (y : Rate) (k : ℕ) → sum_of p ≡ Ok y → size_of (R p) ≡ suc k → (z : Result Rate TooFine) → share_of p.link.capacity y (suc k) ≡ z → as_bound z ≡ bound.At b
         → IsShare p b
-    at y k e f (share.Rate z) g h =
+    at y k e f (Ok z) g h =
         let q : z ≡ b = cc in
         record {
           taken = y;
           is_sum = e;
           some = omega (arith, f);
-          is = ap (share_of p.link.capacity y) f ∙ g ∙ ap share.Rate q;
+          is = ap (share_of p.link.capacity y) f ∙ g ∙ ap Ok q;
         }
-    at y k e f share.TooFine g h = absurd (let w : ◌≡◌ {A = ℕ} 0 1 = cc in omega arith)
+    at y k e f (Err _) g h = absurd (let w : ◌≡◌ {A = ℕ} 0 1 = cc in omega arith)
 
-    go : (t : Total) (k : ℕ) → sum_of p ≡ t → size_of (R p) ≡ k → bound_of p.link.capacity k t ≡ bound.At b → IsShare p b
-    go total.TooFine k e f g = absurd (let w : ◌≡◌ {A = ℕ} 0 1 = cc in omega arith)
-    go total.PastC k e f g = absurd (sound_not_past p o e)
-    go (total.Rate y) zero e f g = absurd (let w : ◌≡◌ {A = ℕ} 0 1 = cc in omega arith)
-    go (total.Rate y) (suc k) e f g = at y k e f (share_of p.link.capacity y (suc k)) refl g
+    go : (t : Result Rate NoTotal) (k : ℕ) → sum_of p ≡ t → size_of (R p) ≡ k → bound_of p.link.capacity k t ≡ bound.At b → IsShare p b
+    go (Err no_total.TooFine) k e f g = absurd (let w : ◌≡◌ {A = ℕ} 0 1 = cc in omega arith)
+    go (Err no_total.PastC) k e f g = absurd (sound_not_past p o e)
+    go (Ok y) zero e f g = absurd (let w : ◌≡◌ {A = ℕ} 0 1 = cc in omega arith)
+    go (Ok y) (suc k) e f g = at y k e f (share_of p.link.capacity y (suc k)) refl g
 
 -- B is above every rate only where R is empty
 pub above_empty : (p : Place) → Sound p → B p ≡ bound.Above → size_of (R p) ≡ 0
 unfolding B bound_of
 above_empty p o e = go (sum_of p) (size_of (R p)) refl refl e
   where
-    at : (z : Share) → as_bound z ≡ bound.Above → ⊥
-    at (share.Rate b) h = let w : ◌≡◌ {A = ℕ} 0 1 = cc in omega arith
-    at share.TooFine h = let w : ◌≡◌ {A = ℕ} 0 1 = cc in omega arith
+    at : (z : Result Rate TooFine) → as_bound z ≡ bound.Above → ⊥
+    at (Ok b) h = let w : ◌≡◌ {A = ℕ} 0 1 = cc in omega arith
+    at (Err _) h = let w : ◌≡◌ {A = ℕ} 0 1 = cc in omega arith
 
-    go : (t : Total) (k : ℕ) → sum_of p ≡ t → size_of (R p) ≡ k → bound_of p.link.capacity k t ≡ bound.Above → size_of (R p) ≡ 0
-    go total.TooFine k e f g = absurd (let w : ◌≡◌ {A = ℕ} 0 1 = cc in omega arith)
-    go total.PastC k e f g = absurd (sound_not_past p o e)
-    go (total.Rate y) zero e f g = f
-    go (total.Rate y) (suc k) e f g = absurd (at (share_of p.link.capacity y (suc k)) g)
+    go : (t : Result Rate NoTotal) (k : ℕ) → sum_of p ≡ t → size_of (R p) ≡ k → bound_of p.link.capacity k t ≡ bound.Above → size_of (R p) ≡ 0
+    go (Err no_total.TooFine) k e f g = absurd (let w : ◌≡◌ {A = ℕ} 0 1 = cc in omega arith)
+    go (Err no_total.PastC) k e f g = absurd (sound_not_past p o e)
+    go (Ok y) zero e f g = f
+    go (Ok y) (suc k) e f g = absurd (at (share_of p.link.capacity y (suc k)) g)
 
-sum_ok : (p : Place) (y : Rate) → Sound p → sum_of p ≡ total.Rate y → (0 < y.den) × (y.num ≤ p.link.capacity * y.den)
+sum_ok : (p : Place) (y : Rate) → Sound p → sum_of p ≡ Ok y → (0 < y.den) × (y.num ≤ p.link.capacity * y.den)
 sum_ok p y o e =
     let z = subst (TotalSized p.link.capacity) e (sum_sized p o.workable) in
     (z.pos, z.num)

@@ -17,9 +17,8 @@ use Rattle.links.specs.declared.Entry.{Entry}
 use Rattle.links.specs.declared.Mu.{Mu}
 use Rattle.links.specs.declared.Mu.TheVariants as mu
 use Rattle.links.specs.declared.Place.{Place}
-use Rattle.links.specs.declared.Wanted.TheVariants as wanted
 use Rattle.links.specs.FCheck.{check_of, highest_of, over_b, process_of, turn_of}
-use Rattle.links.specs.Links.{B, F, R, above_b, awaits_response, entry, entry_at, equals_b, holds, in_f, in_r, is_idle, mu_at, no_entry, rate_at, some_of, those_of, wait_in, waiting_of, with_entry, with_mu, with_words}
+use Rattle.links.specs.Links.{B, F, R, above_b, awaits_response, entry, entry_at, equals_b, holds, in_f, in_r, is_idle, mu_at, no_entry, rate_at, some_of, those_of, wait_in, waiting_of, with_entry, with_mu, with_words, at_least, has_rate, idle_above, idle_at}
 use Rattle.records.proofs.Somes.{clash}
 use Rattle.sessions.specs.Set.{cut, has, members, put, walk}
 use Rattle.sessions.proofs.Members.{has_lt, has_put_same, is_in}
@@ -75,21 +74,21 @@ waiting_still p w r n h = still p (waiting_of p w) r (omega arith) (entries_stil
 
 -- a session that waits is not among the idle
 module _ (p : Place) (r w : ℕ) (h : Waiting p r) (b : Bound) where
-  not_above : has r (those_of (wanted.IdleAbove b) p.entries w) ≡ 0
+  not_above : has r (those_of (idle_above b) p.entries w) ≡ 0
   not_above =
-      those_out (wanted.IdleAbove b) p.entries w r
+      those_out (idle_above b) p.entries w r
       (λ k m. not_idle (mu_at p r) h.awaits (and_both (is_idle (mu_at p r)) (above_b b (rate_at p r)) m).0)
 
-  pub not_at : has r (those_of (wanted.IdleAt b) p.entries w) ≡ 0
+  pub not_at : has r (those_of (idle_at b) p.entries w) ≡ 0
   not_at =
-      those_out (wanted.IdleAt b) p.entries w r
+      those_out (idle_at b) p.entries w r
       (λ k m. not_idle (mu_at p r) h.awaits (and_both (is_idle (mu_at p r)) (equals_b b (rate_at p r)) m).0)
 
 -- the F check takes nobody out of R
 turn_still : (p : Place) (r : ℕ) → Waiting p r → Waiting (turn_of p) r
 unfolding turn_of
 turn_still p r w =
-    let v = those_of (wanted.Equal (highest_of p)) p.entries (F p) in
+    let v = those_of (has_rate (highest_of p)) p.entries (F p) in
     still p (turn_of p) r (omega (arith, has_or r (R p) v, least (has r (R p)) (has r v))) refl w
   where
     least : (a b : ℕ) → a ≤ max a b
@@ -99,7 +98,7 @@ check_still : (k : ℕ) (p : Place) (r : ℕ) → Waiting p r → Waiting (check
 unfolding check_of
 check_still zero p r w = w
 check_still (suc k) p r w =
-    cases (λ (q : Place). Waiting q r) (some_of (wanted.AtLeast (B p)) p.entries (F p)) (check_of k (turn_of p)) p
+    cases (λ (q : Place). Waiting q r) (some_of (at_least (B p)) p.entries (F p)) (check_of k (turn_of p)) p
     (λ e. check_still k (turn_of p) r (turn_still p r w))
     (λ e. w)
 

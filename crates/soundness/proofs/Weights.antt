@@ -1,6 +1,7 @@
 -- Sums over the members of a set: with fewer members, with one more, with other numbers; and that the sum of F, as a link works it out one member
 -- after the other, is the sum of its members' rates.
 -- Assumes nothing.
+use Rattle.std.specs.Prelude.{Result, Ok, Err}
 use mathlib.Core.Logic.{◌⊎◌, inl, inr}
 use mathlib.Core.Path.{◌≡◌, ap, refl, subst, sym, ◌∙◌}
 use Prim.Native.Nat.{ℕ, zero, suc, ◌+◌, ◌*◌, ◌/◌, ◌%◌, ◌≤◌, ◌<◌}
@@ -13,16 +14,15 @@ use borrow.Author.Tests.{eq-eqb, ne_eqb}
 use Rattle.fairness.specs.Sum.{part, sum}
 use Rattle.fairness.proofs.Sums.{sum_add, sum_at, sum_eq, sum_first, sum_le, sum_one, sum_scale}
 use Rattle.fractions.specs.declared.Rate.{Rate}
-use Rattle.fractions.specs.declared.Sum.{Sum}
-use Rattle.fractions.specs.declared.Sum.TheVariants as outcome
+use Rattle.fractions.specs.declared.TooFine.{TooFine}
 use Rattle.fractions.specs.Fraction.{Same, Sized, add_of, frac, le_of, plus_of, whole_of, zero_of}
 use Rattle.fractions.proofs.Cases.{cases, eqb-T}
 use Rattle.fractions.proofs.LowestTerms.{lowest_pos, lowest_same}
 use Rattle.fractions.proofs.Order.{le_false, same_trans}
 use Rattle.fractions.proofs.Ranges.{plus_rate}
 use Rattle.links.specs.declared.Place.{Place}
-use Rattle.links.specs.declared.Total.{Total}
-use Rattle.links.specs.declared.Total.TheVariants as total
+use Rattle.links.specs.declared.NoTotal.{NoTotal}
+use Rattle.links.specs.declared.NoTotal.TheVariants as no_total
 use Rattle.links.specs.Links.{F, TotalSized, Workable, more_of, rate_at, sum_of, upto_of}
 use Rattle.links.proofs.Sizes.{sum_sized}
 use Rattle.sessions.specs.Set.{has, members_from, put, size_of, walk}
@@ -127,7 +127,7 @@ pub record Comes (N : ℕ) (y : Rate) (n : ℕ) : Type 0 where
   pub pos : 0 < y.den
   pub same : Same y (frac n N)
 
-plus_comes : (N n m : ℕ) (u v y : Rate) → Comes N u n → Comes N v m → plus_of u v ≡ outcome.Rate y → Comes N y (n + m)
+plus_comes : (N n m : ℕ) (u v y : Rate) → Comes N u n → Comes N v m → plus_of u v ≡ Ok y → Comes N y (n + m)
 unfolding add_of
 plus_comes N n m u v y i j e =
     let D = mul-pos i.pos j.pos in
@@ -141,28 +141,28 @@ plus_comes N n m u v y i j e =
     })
 
 -- what a total at a link of capacity c says of the sum n / N: past C means that the sum is
-abbrev Stands : ℕ → ℕ → Total → ℕ → Type 0
-Stands c N (total.Rate y) n = Comes N y n
-Stands c N total.TooFine n = 0 ≤ 0
-Stands c N total.PastC n = N * c < n
+abbrev Stands : ℕ → ℕ → Result Rate NoTotal → ℕ → Type 0
+Stands c N (Ok y) n = Comes N y n
+Stands c N (Err no_total.TooFine) n = 0 ≤ 0
+Stands c N (Err no_total.PastC) n = N * c < n
 
-upto_stands : (c N n : ℕ) (y : Rate) → 0 < N → Comes N y n → Stands c N (upto_of c (outcome.Rate y)) n
+upto_stands : (c N n : ℕ) (y : Rate) → 0 < N → Comes N y n → Stands c N (upto_of c (Ok y)) n
 unfolding upto_of
 upto_stands c N n y h i =
-    cases (λ (t : Total). Stands c N t n) (le_of y (whole_of c)) (total.Rate y) total.PastC (λ e. i)
+    cases (λ (t : Result Rate NoTotal). Stands c N t n) (le_of y (whole_of c)) (Ok y) (Err no_total.PastC) (λ e. i)
     (λ e.
     let lt = le_false {a = y} {b = whole_of c} e in
     lt_of_mul-lt-mul_right y.den (omega (arith, mul-lt-mul_of_pos_right lt.cross h, i.same.cross)))
 
-more_stands : (c N n m : ℕ) (t : Total) (v : Rate) → 0 < N → Stands c N t n → Comes N v m → Stands c N (more_of c t v) (n + m)
+more_stands : (c N n m : ℕ) (t : Result Rate NoTotal) (v : Rate) → 0 < N → Stands c N t n → Comes N v m → Stands c N (more_of c t v) (n + m)
 unfolding more_of upto_of
-more_stands c N n m (total.Rate y) v h i j = go (plus_of y v) refl
+more_stands c N n m (Ok y) v h i j = go (plus_of y v) refl
   where
-    go : (z : Sum) → plus_of y v ≡ z → Stands c N (upto_of c z) (n + m)
-    go (outcome.Rate u) e = upto_stands c N (n + m) u h (plus_comes N n m y v u i j e)
-    go outcome.TooFine e = lit≤ tt
-more_stands c N n m total.TooFine v h i j = lit≤ tt
-more_stands c N n m total.PastC v h i j = omega arith
+    go : (z : Result Rate TooFine) → plus_of y v ≡ z → Stands c N (upto_of c z) (n + m)
+    go (Ok u) e = upto_stands c N (n + m) u h (plus_comes N n m y v u i j e)
+    go (Err _) e = lit≤ tt
+more_stands c N n m (Err no_total.TooFine) v h i j = lit≤ tt
+more_stands c N n m (Err no_total.PastC) v h i j = omega arith
 
 -- the rates of F's members over one denominator: x s / N
 module _ (N : ℕ) (x : ℕ → ℕ) (p : Place) (h : 0 < N) (c : (s : ℕ) → s < 32 → has s (F p) ≡ 1 → Comes N (rate_at p s) (x s)) where
@@ -173,19 +173,19 @@ module _ (N : ℕ) (x : ℕ → ℕ) (p : Place) (h : 0 < N) (c : (s : ℕ) → 
       subst (Stands C N (sum_of p)) {x = 0 + weight (F p) x} {y = weight (F p) x} (omega arith)
       (walk_adds (Stands C N) (λ a s. more_of C a (rate_at p s)) x (F p)
       (λ s l m a n q. more_stands C N n (x s) a (rate_at p s) h q (c s l m))
-      (total.Rate zero_of) 0 (record { pos = lit≤ tt; same = record { cross = omega arith } }))
+      (Ok zero_of) 0 (record { pos = lit≤ tt; same = record { cross = omega arith } }))
 
   -- where the sum of F is a rate, it is what F's members weigh
-  pub members_weigh : (y : Rate) → sum_of p ≡ total.Rate y → Comes N y (weight (F p) x)
-  members_weigh y e = subst (λ (t : Total). Stands p.link.capacity N t (weight (F p) x)) e sum_stands
+  pub members_weigh : (y : Rate) → sum_of p ≡ Ok y → Comes N y (weight (F p) x)
+  members_weigh y e = subst (λ (t : Result Rate NoTotal). Stands p.link.capacity N t (weight (F p) x)) e sum_stands
 
   -- and as it is then at most C, they weigh at most C
-  pub members_within : (y : Rate) → Workable p → sum_of p ≡ total.Rate y → weight (F p) x ≤ N * p.link.capacity
+  pub members_within : (y : Rate) → Workable p → sum_of p ≡ Ok y → weight (F p) x ≤ N * p.link.capacity
   members_within y work e =
       let i = members_weigh y e in
       let z : Sized p.link.capacity y = subst (TotalSized p.link.capacity) e (sum_sized p work) in
       le_of_mul-le-mul_right {k = y.den} (omega (arith, i.same.cross, mul-le-mul_right N z.num)) i.pos
 
   -- and where it is past C, they weigh more than C
-  pub past_weigh : sum_of p ≡ total.PastC → N * p.link.capacity < weight (F p) x
-  past_weigh e = subst (λ (t : Total). Stands p.link.capacity N t (weight (F p) x)) e sum_stands
+  pub past_weigh : sum_of p ≡ Err no_total.PastC → N * p.link.capacity < weight (F p) x
+  past_weigh e = subst (λ (t : Result Rate NoTotal). Stands p.link.capacity N t (weight (F p) x)) e sum_stands

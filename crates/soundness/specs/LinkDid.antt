@@ -1,7 +1,7 @@
 -- What every rule of Figure 2 does to its link, whatever the packet: the link stays sound, only a Join makes an entry, a Leave ends its own, and
 -- what is sent goes to sessions that the link holds.
 -- Assumes nothing: definitions.
-use Rattle.std.specs.Prelude.{Bool, false, true, ◌⊎◌, ◌≡◌, ℕ, ◌^◌, ◌<◌}
+use Rattle.std.specs.Prelude.{Bool, false, true, ◌⊎◌, ◌≡◌, ℕ, ◌^◌, ◌<◌, None, Option, Some}
 use Rattle.links.specs.declared.Place.{Place}
 use Rattle.links.specs.Links.{B, is_fine}
 use Rattle.sessions.specs.Set.{has}
@@ -9,8 +9,6 @@ use Rattle.table.specs.Values.{KindWithin}
 use Rattle.tasks.specs.declared.Did.{Did}
 use Rattle.tasks.specs.declared.Kind.{Kind}
 use Rattle.tasks.specs.declared.Kind.TheVariants as kind
-use Rattle.tasks.specs.declared.Onward.{Onward}
-use Rattle.tasks.specs.declared.Onward.TheVariants as onward
 use Rattle.tasks.specs.Packets.{goes_down, is_leave}
 use Rattle.soundness.specs.Sound.{Held, Sound}
 
@@ -32,9 +30,9 @@ pub record PassedOn (k j : Kind) : Type 0 where
   pub join : is_join j ≡ is_join k
 
 -- what goes on of the packet's own session: a Leave always does
-abbrev pub GoesOn : Kind → Onward → Type 0
-GoesOn k onward.Nothing = is_leave k ≡ false
-GoesOn k (onward.Send j) = PassedOn k j
+abbrev pub GoesOn : Kind → Option Kind → Type 0
+GoesOn k None = is_leave k ≡ false
+GoesOn k (Some j) = PassedOn k j
 
 -- the task of a link did d with a packet of kind k and session s
 pub record LinkDid (s : ℕ) (k : Kind) (p : Place) (d : Did) : Type 0 where

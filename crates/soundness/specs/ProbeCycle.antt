@@ -1,13 +1,11 @@
 -- A session's probe cycle (01, "The tasks"): a Join or a Probe goes down its path, and a Response comes back. At the links that the packet has
 -- passed on its way down, and not yet on its way back, the session is in R and waits for a response.
 -- Assumes nothing: definitions.
-use Rattle.std.specs.Prelude.{Bool, false, true, ◌≡◌, ℕ}
+use Rattle.std.specs.Prelude.{Bool, false, true, ◌≡◌, ℕ, None, Option, Some}
 use Rattle.links.specs.declared.Place.{Place}
 use Rattle.links.specs.Links.{awaits_response, in_r, mu_at}
 use Rattle.tasks.specs.declared.Kind.{Kind}
 use Rattle.tasks.specs.declared.Kind.TheVariants as kind
-use Rattle.tasks.specs.declared.Onward.{Onward}
-use Rattle.tasks.specs.declared.Onward.TheVariants as onward
 
 -- r is in R and waits for a response
 pub record Waiting (p : Place) (r : ℕ) : Type 0 where
@@ -35,6 +33,6 @@ in_cycle (kind.SetBottleneck β) = false
 in_cycle kind.Leave = false
 
 -- one of them is sent
-abbrev pub sends_cycle : Onward → Bool
-sends_cycle onward.Nothing = false
-sends_cycle (onward.Send k) = in_cycle k
+abbrev pub sends_cycle : Option Kind → Bool
+sends_cycle None = false
+sends_cycle (Some k) = in_cycle k

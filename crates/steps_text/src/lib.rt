@@ -1,72 +1,26 @@
 // What `steps` prints for an input (01, "Examples"): what the table says after a run from the empty one, and the refusal, if any.
 #![tactic(auto)]
 
-use ends::Told;
-use machine::{Session, SettledAnswer};
-use records::{End, Refusal};
+use machine::Session;
 use std::io;
 
-// The rate last told, or `none`.
-fn print_told(rt: &impl Print, told: Told) -> io::Result<()> {
-    match told {
-        Told::Never => println!(rt; " none"),
-        Told::Rate(x) => println!(rt; " {}/{}", x.num, x.den),
-    }
+// Records taken, packets in flight, and whether the table is settled.
+fn print_header(rt: &impl Print, taken: usize, t: &[u64; 9153]) -> io::Result<()> {
+    let packets = machine::in_flight(t);
+    let settled = if machine::settled(t).unwrap_or(false) {
+        "yes"
+    } else {
+        "no"
+    };
+    println!(rt; "taken {taken} packets {packets} settled {settled}")
 }
 
-// A session that is active, and its rate.
+// A session that is active, and the rate last told to it, or `none`.
 fn print_session(rt: &impl Print, s: u32, x: Session) -> io::Result<()> {
     match x {
         Session::NotActive => Ok(()),
-        Session::Active(told) => {
-            print!(rt; "{s}")?;
-            print_told(rt, told)
-        }
-    }
-}
-
-// The active sessions by rising number.
-fn print_sessions(rt: &impl Print, t: &[u64; 9153]) -> io::Result<()> {
-    for s in 0..32u32 {
-        let x = machine::session_at(t, s);
-        print_session(rt, s, x)?;
-    }
-    Ok(())
-}
-
-// Whether the table is settled.
-fn print_settled(rt: &impl Print, answer: SettledAnswer) -> io::Result<()> {
-    match answer {
-        SettledAnswer::Yes => println!(rt; " settled yes"),
-        SettledAnswer::No => println!(rt; " settled no"),
-        SettledAnswer::Refused {
-            refusal: _,
-            place: _,
-        } => println!(rt; " settled no"),
-    }
-}
-
-// Records taken, packets in flight, and whether the table is settled.
-fn print_header(
-    rt: &impl Print,
-    taken: usize,
-    packets: usize,
-    answer: SettledAnswer,
-) -> io::Result<()> {
-    print!(rt; "taken {taken} packets {packets}")?;
-    print_settled(rt, answer)
-}
-
-// A refusal ends the output.
-fn print_refusal(rt: &impl Print, refusal: Refusal, place: usize) -> io::Result<()> {
-    let number = records::number(refusal);
-    println!(rt; "refused {number} at {place}")
-}
-
-fn print_end(rt: &impl Print, end: End) -> io::Result<()> {
-    match end {
-        End::Finished => Ok(()),
-        End::Refused { refusal, place } => print_refusal(rt, refusal, place),
+        Session::Active(None) => println!(rt; "{s} none"),
+        Session::Active(Some(told)) => println!(rt; "{s} {told}"),
     }
 }
 
@@ -75,9 +29,14 @@ pub fn print(rt: &impl Print, s: &[u8]) -> io::Result<()> {
     let mut t = [0u64; 9153];
     machine::make_empty(&mut t);
     let ran = machine::run(&mut t, s);
-    let end = ran.end;
-    let answer = machine::settled(&t);
-    print_header(rt, ran.taken, machine::in_flight(&t), answer)?;
-    print_sessions(rt, &t)?;
-    print_end(rt, end)
+    print_header(rt, ran.taken, &t)?;
+    // The active sessions by rising number.
+    for s in 0..32u32 {
+        print_session(rt, s, machine::session_at(&t, s))?;
+    }
+    // A refusal ends the output.
+    match ran.end {
+        Ok(()) => Ok(()),
+        Err(refused) => println!(rt; "{refused}"),
+    }
 }

@@ -1,5 +1,6 @@
 -- Codes: each stands for what it is the code of, and is within its range.
 -- Assumes nothing.
+use Rattle.std.specs.Prelude.{None, Option, Some}
 use mathlib.Core.Bool.{Bool, false, true}
 use mathlib.Core.Path.{◌≡◌, ap, refl}
 use native.Mathlib.Omega.{arith}
@@ -12,11 +13,10 @@ use Rattle.links.specs.declared.Mu.{Mu}
 use Rattle.links.specs.declared.Mu.TheVariants as mu
 use Rattle.tasks.specs.declared.Tau.{Tau}
 use Rattle.tasks.specs.declared.Tau.TheVariants as tau
-use Rattle.ends.specs.declared.Told.{Told}
-use Rattle.ends.specs.declared.Told.TheVariants as told
 use Rattle.table.specs.Values.{EtaInRange, ToldInRange}
 use Rattle.table.specs.Codes.{bit_of, eta_code, eta_of, mu_code, mu_of, tau_code, tau_of, told_code, told_of, told_rate}
 use Rattle.table.proofs.InRange.{field_same}
+use Rattle.fractions.specs.declared.Rate.{Rate}
 
 pub mu_back : (m : Mu) → mu_of (mu_code m) ≡ m
 unfolding mu_of
@@ -39,10 +39,10 @@ unfolding eta_of
 eta_back eta.Own h = refl
 eta_back (eta.Link e) h = rw (ne_eqb e 64 (λ q. omega arith), field_same 63 e (omega arith))
 
-pub told_back : (x : Told) → ToldInRange x → told_of (told_code x) (told_rate x).num (told_rate x).den ≡ x
+pub told_back : (x : Option Rate) → ToldInRange x → told_of (told_code x) (told_rate x).num (told_rate x).den ≡ x
 unfolding told_of
-told_back told.Never h = refl
-told_back (told.Rate x) h = ap told.Rate (kept_same h)
+told_back None h = refl
+told_back (Some x) h = ap Some (kept_same h)
 
 -- AND IS WITHIN ITS RANGE ---------------------------------------------------------------------------------------------
 
@@ -64,6 +64,6 @@ pub eta_most : (n : Eta) → EtaInRange n → leb (eta_code n) 64 ≡ true
 eta_most eta.Own h = refl
 eta_most (eta.Link e) h = le-leb e 64 (omega arith)
 
-pub told_most : (x : Told) → leb (told_code x) 1 ≡ true
-told_most told.Never = refl
-told_most (told.Rate x) = refl
+pub told_most : (x : Option Rate) → leb (told_code x) 1 ≡ true
+told_most None = refl
+told_most (Some x) = refl

@@ -1,5 +1,6 @@
 -- What is read from the empty table: nothing is declared, nobody has joined, and no packet is in flight.
 -- Assumes nothing.
+use Rattle.std.specs.Prelude.{None}
 use mathlib.Core.Bool.{false}
 use mathlib.Core.List.{[]}
 use mathlib.Core.Path.{◌≡◌, refl}
@@ -8,7 +9,6 @@ use lib.ListN.{get_or, length, length-replicate, replicate}
 use Rattle.fractions.specs.Fraction.{kept_of, sized_of, zero_of}
 use Rattle.links.specs.declared.Entry.{Entry}
 use Rattle.links.specs.declared.Mu.TheVariants as mu
-use Rattle.ends.specs.declared.Told.TheVariants as told
 use Rattle.table.specs.Words.{block_at, count_of, empty_words, entries_from, entry_of, hops_of, link_of, packets_from, packets_of, path_of, row_of, source_from, source_of, stops_from}
 use Rattle.table.specs.Codes.{field_of, mu_of, told_of}
 
@@ -57,7 +57,7 @@ pub empty_source : (s : ℕ)
       rate = zero_of;
       updated = false;
       bottlenecked = false;
-      told = told.Never;
+      told = None;
     }
 unfolding source_of source_from block_at field_of mu_of kept_of sized_of told_of
 empty_source s =

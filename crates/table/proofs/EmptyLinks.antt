@@ -1,12 +1,12 @@
 -- In the empty table no link holds a session, no session is active, and every F sums to 0.
 -- Assumes nothing.
+use Rattle.std.specs.Prelude.{Ok}
 use mathlib.Core.Bool.{false}
 use mathlib.Core.Path.{ap, ◌≡◌}
 use Prim.Native.Nat.{ℕ}
 use Rattle.ends.specs.declared.Source.{Source}
 use Rattle.fractions.specs.Fraction.{zero_of}
 use Rattle.links.specs.declared.Link.{Link}
-use Rattle.links.specs.declared.Total.TheVariants as total
 use Rattle.links.specs.Links.{F, R, holds, in_f, in_r, sum_of}
 use Rattle.links.proofs.Bounds.{sum_none}
 use Rattle.sessions.proofs.Members.{has_zero}
@@ -31,5 +31,5 @@ none_held e s = rw (empty_r e, empty_f e, has_zero s)
 pub none_active : (s : ℕ) → (source_of empty_words s).active ≡ false
 none_active s = ap (λ (z : Source). z.active) (empty_source s)
 
-pub empty_sum : (e : ℕ) → sum_of (place_of empty_words e) ≡ total.Rate zero_of
+pub empty_sum : (e : ℕ) → sum_of (place_of empty_words e) ≡ Ok zero_of
 empty_sum e = sum_none (place_of empty_words e) (empty_f e)

@@ -1,17 +1,21 @@
--- One law for each turn of a loop over the words, and one for its end.
+-- One law for each turn of a loop over the words, one for its end, and one for what a chain answers.
 -- Assumes nothing.
-use mathlib.Core.List.{List, append-nil}
+use mathlib.Core.Bool.{Bool, cond, true, false}
+use mathlib.Core.List.{List}
 use mathlib.Core.Path.{◌≡◌, ap, refl, sym, ◌∙◌}
-use Prim.Native.Nat.{ℕ, zero, suc, ◌+◌, ◌-◌, ◌*◌, ◌≤◌, ◌<◌}
-use native.Mathlib.Nat.{zero-add}
+use Prim.Native.Nat.{ℕ, zero, suc, ◌+◌, ◌*◌, ◌≤◌, ◌<◌}
 use native.Mathlib.Numerals.{add-one}
 use native.Mathlib.Omega.{arith}
-use borrow.Author.Tests.{eq-eqb, ne_eqb}
-use lib.ListN.{drop, drop_of_length-le, get_or, length, set}
-use lib.Seq.{drop-cons, paste, paste-suc, take_all}
+use lib.Dec.{eqb}
+use lib.ListN.{drop, drop_of_length-le, get_or, length}
+use lib.Seq.{drop-cons}
+use Rattle.std.specs.List.{position_from, range_with_len}
+use Rattle.std.specs.declared.option.Option.{Option}
+use Rattle.std.specs.declared.option.Option.TheVariants.{None, Some}
+use Rattle.std.proofs.lemmas.List.{same_lists}
 use Rattle.links.specs.declared.Entry.{Entry}
-use Rattle.table.specs.Words.{entries_from, entry_of, hop_from, moved_up, put_entry, stop_of, stops_from, store_entries}
 use Rattle.links.specs.Links.{no_entry}
+use Rattle.table.specs.Words.{entries_from, entry_of, hop_from, hop_of, hops_of, path_of, put_entry, stop_of, stops_from, store_entries}
 
 -- A ROW READ ----------------------------------------------------------------------------------------------------------
 
@@ -28,28 +32,14 @@ get_d_entries (suc k) (suc h) w a z l =
     let p : a + 3 + h * 3 ≡ a + suc h * 3 = omega arith in
     get_d_entries k h w (a + 3) z (omega arith) ∙ ap (entry_of w) p
 
-pub row_turn : (d X : List Entry) (w : List ℕ) (a k h : ℕ) (x : Entry)
-    → X ≡ paste d 0 (entries_from k w a) h
-    → h < k
-    → h < length d
-    → x ≡ entry_of w (a + h * 3)
-    → set X h x ≡ paste d 0 (entries_from k w a) (h + 1)
-row_turn d X w a k h x e l m f =
-    let q : h < length (entries_from k w a) = rw length_entries l in
-    let n : 0 + h < length d = omega arith in
-    rw
-    (e, f, ← get_d_entries k h w a no_entry l, add-one h)
-    (ap (λ (j : ℕ). set (paste d 0 (entries_from k w a) h) j (get_or (entries_from k w a) h no_entry)) (sym (zero-add h))
-    ∙ paste-suc d 0 (entries_from k w a) h no_entry n q)
-
-pub row_end : (d : List Entry) (w : List ℕ) (a k h : ℕ)
-    → length d ≡ k
-    → h ≡ k
-    → paste d 0 (entries_from k w a) h ≡ entries_from k w a
-row_end d w a k h l e =
-    let m : length d ≤ 0 + h = omega arith in
-    let n : length (entries_from k w a) ≤ h = rw length_entries (omega arith) in
-    rw (drop_of_length-le d m, take_all h (entries_from k w a) n) (append-nil (entries_from k w a))
+-- the entry at each place
+pub row_made : (row : List Entry) (w : List ℕ) (a : ℕ)
+    → length row ≡ 32
+    → ((h : ℕ) (z : Entry) → h < 32 → get_or row h z ≡ entry_of w (a + h * 3))
+    → row ≡ entries_from 32 w a
+row_made row w a l at =
+    same_lists row (entries_from 32 w a) (l ∙ sym (length_entries 32 w a))
+    (λ h z k. at h z (omega (arith, l)) ∙ sym (get_d_entries 32 h w a z (omega (arith, l))))
 
 -- A ROW WRITTEN -------------------------------------------------------------------------------------------------------
 
@@ -67,41 +57,27 @@ pub put_end : (w : List ℕ) (a h : ℕ) (l : List Entry) → length l ≤ h →
 unfolding store_entries
 put_end w a h l m = rw (drop_of_length-le l m)
 
--- WORDS THAT MOVE UP --------------------------------------------------------------------------------------------------
-
-pub move_turn : (n j : ℕ) (w : List ℕ)
-    → j < n
-    → moved_up (n - j) w j ≡ moved_up (n - (j + 1)) (set w j (get_or w (j + 8) 0)) (j + 1)
-unfolding moved_up
-move_turn n j w h =
-    let p : n - j ≡ suc (n - (j + 1)) = omega arith in
-    rw p
-
-pub move_end : (n j : ℕ) (w : List ℕ) → n ≤ j → moved_up (n - j) w j ≡ w
-unfolding moved_up
-move_end n j w h =
-    let p : n - j ≡ 0 = omega arith in
-    rw p
-
 -- A PATH WALKED -------------------------------------------------------------------------------------------------------
 
-pub hop_on : (w : List ℕ) (s n h i e : ℕ)
-    → i < n
-    → (stop_of w s i ≡ e → ⊥)
-    → hop_from h (stops_from (n - i) w s i) e ≡ hop_from (h + 1) (stops_from (n - (i + 1)) w s (i + 1)) e
-unfolding hop_from stops_from
-hop_on w s n h i e l q =
-    let p : n - i ≡ suc (n - (i + 1)) = omega arith in
-    rw (p, ne_eqb (stop_of w s i) e q, add-one h)
+-- the hop of the link at a place that was found, or 0
+abbrev pub hop_given : Option ℕ → ℕ
+hop_given None = 0
+hop_given (Some i) = i + 1
 
-pub hop_found : (w : List ℕ) (s n h i e : ℕ) → i < n → stop_of w s i ≡ e → hop_from h (stops_from (n - i) w s i) e ≡ h
-unfolding hop_from stops_from
-hop_found w s n h i e l q =
-    let p : n - i ≡ suc (n - (i + 1)) = omega arith in
-    rw (p, eq-eqb (stop_of w s i) e q)
+given : (b : Bool) (i h : ℕ) (o : Option ℕ) → h ≡ hop_given o → cond b (suc i) h ≡ hop_given (cond b (Some i) o)
+given true i h o e = sym (add-one i)
+given false i h o e = e
 
-pub hop_none : (w : List ℕ) (s n h i e : ℕ) → n ≤ i → hop_from h (stops_from (n - i) w s i) e ≡ 0
+hops_on : (w : List ℕ) (s e n i : ℕ)
+    → hop_from (suc i) (stops_from n w s i) e ≡ hop_given (position_from (λ j. eqb (stop_of w s j) e) i (range_with_len i n))
 unfolding hop_from stops_from
-hop_none w s n h i e l =
-    let p : n - i ≡ 0 = omega arith in
-    rw p
+hops_on w s e zero i = refl
+hops_on w s e (suc n) i =
+    given (eqb (stop_of w s i) e) i (hop_from (suc (suc i)) (stops_from n w s (i + 1)) e) (position_from (λ j. eqb (stop_of w s j) e) (i + 1) (range_with_len (i + 1) n))
+    (ap (λ (h : ℕ). hop_from h (stops_from n w s (i + 1)) e) (ap suc (sym (add-one i))) ∙ hops_on w s e n (i + 1))
+
+pub hop_found : (w : List ℕ) (s e : ℕ) (o : Option ℕ)
+    → o ≡ position_from (λ j. eqb (stop_of w s j) e) 0 (range_with_len 0 (hops_of w s))
+    → hop_of w s e ≡ hop_given o
+unfolding path_of
+hop_found w s e o q = hops_on w s e (hops_of w s) 0 ∙ ap hop_given (sym q)

@@ -3,11 +3,15 @@
 use mathlib.Core.List.{List, [], ◌∷◌}
 use mathlib.Core.Logic.{◌⊎◌, ⊎_elim}
 use mathlib.Core.Path.{◌≡◌, ap, refl, sym, ◌∙◌}
-use Prim.Native.Nat.{ℕ, zero, suc, ◌+◌, ◌≤◌, ◌<◌}
+use Prim.Native.Nat.{ℕ, zero, suc, ◌+◌, ◌-◌, ◌≤◌, ◌<◌}
 use native.Mathlib.Nat.{eq-or-lt_of_le}
 use native.Mathlib.Omega.{arith}
 use lib.ListN.{get_or, length, length-set, set}
-use lib.Seq.{get_or-set_other, get_or-set_same}
+use lib.Seq.{get_or-set_other, get_or-set_same, paste}
+use Rattle.std.specs.List.{CopiedTo, SameBelow, SameFrom}
+use Rattle.std.proofs.lemmas.Bool.{cases_lt}
+use Rattle.std.proofs.lemmas.List.{ext_get_or}
+use Rattle.std.proofs.lemmas.List.Edits.{paste_more, paste_none}
 use Rattle.table.specs.Words.{block_at, moved_up, put_block, store, store_from}
 
 -- the place i is before the n places from a on, or behind them
@@ -158,6 +162,19 @@ pub block_word : (w : List ℕ) (a : ℕ) (b : List ℕ) (i : ℕ) → i < 8 →
 block_word w a b i h l =
     sym (get_d_block (put_block w a b) a i h) ∙ ap (λ (c : List ℕ). get_or c i 0) (block_back w a b l) ∙ get_d_eight b i h
 
+-- eight words copied
+module _ (w : List ℕ) (a : ℕ) (b : List ℕ) (l : length b ≡ 8) (h : a + 8 ≤ length w) where
+  next : (i : ℕ) (v : List ℕ) → i < 8 → v ≡ paste w a b i → set v (a + i) (get_or b i 0) ≡ paste w a b (i + 1)
+  next i v m e = ap (λ (z : List ℕ). set z (a + i) (get_or b i 0)) e ∙ paste_more w a b i 0 (omega arith) (omega arith)
+
+  first : set w a (get_or b 0 0) ≡ paste w a b 1
+  first = let q : a ≡ a + 0 = omega arith in ap (λ (k : ℕ). set w k (get_or b 0 0)) q ∙ next 0 w (omega arith) (paste_none w a b)
+
+  pub block_pasted : put_block w a b ≡ paste w a b 8
+  unfolding put_block
+  block_pasted =
+      next 7 _ (omega arith) (next 6 _ (omega arith) (next 5 _ (omega arith) (next 4 _ (omega arith) (next 3 _ (omega arith) (next 2 _ (omega arith) (next 1 _ (omega arith) first))))))
+
 -- WORDS THAT MOVE UP BY EIGHT PLACES ----------------------------------------------------------------------------------
 
 pub length_moved : (k : ℕ) (w : List ℕ) (j : ℕ) → length (moved_up k w j) ≡ length w
@@ -196,3 +213,25 @@ moved_at (suc k) w j i a b l =
     moved_at k (set w j (get_or w (j + 8) 0)) (j + 1) i (omega arith) (omega arith) (rw length-set (omega arith))
     ∙ get_or-set_other w j (i + 8) (get_or w (j + 8) 0) 0 (λ q. omega arith))
     (eq-or-lt_of_le a)
+
+-- what a copy of them leaves
+pub moved_by_place : (w v : List ℕ) (j k : ℕ)
+    → j + k + 8 ≤ length w
+    → length v ≡ length w
+    → CopiedTo w v (j + 8) j k
+    → SameBelow w v j
+    → SameFrom w v (j + k)
+    → v ≡ moved_up k w j
+moved_by_place w v j k h l copied below from =
+    ext_get_or 0 v (moved_up k w j) (l ∙ sym (length_moved k w j))
+    (λ i m.
+    ⊎_elim
+    (λ (a : i < j). below i 0 a ∙ sym (moved_below k w j i a))
+    (λ (a : j ≤ i).
+    ⊎_elim
+    (λ (b : i < j + k).
+    let p : j + 8 + (i - j) ≡ i + 8 = omega arith in
+    copied i 0 a b ∙ ap (λ (n : ℕ). get_or w n 0) p ∙ sym (moved_at k w j i a b h))
+    (λ (b : j + k ≤ i). from i 0 b ∙ sym (moved_above k w j i b))
+    (cases_lt i (j + k)))
+    (cases_lt i j))

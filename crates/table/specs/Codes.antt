@@ -1,7 +1,7 @@
 -- One word of a table: a number within its range, or the code of a state, of a Response's kind, of a link's name or of a told rate.
 -- Reading is total: a word outside its field's range reads as 0, and two words that are no rate within the limits as 0/1.
 -- Assumes nothing: definitions.
-use Rattle.std.specs.Prelude.{Bool, cond, false, true, ℕ, eqb, leb}
+use Rattle.std.specs.Prelude.{Bool, cond, false, true, ℕ, eqb, leb, None, Option, Some}
 use Rattle.fractions.specs.Fraction.{frac, kept_of}
 use Rattle.fractions.specs.declared.Rate.{Rate}
 use Rattle.links.specs.declared.Mu.{Mu}
@@ -10,8 +10,6 @@ use Rattle.tasks.specs.declared.Eta.{Eta}
 use Rattle.tasks.specs.declared.Eta.TheVariants as eta
 use Rattle.tasks.specs.declared.Tau.{Tau}
 use Rattle.tasks.specs.declared.Tau.TheVariants as tau
-use Rattle.ends.specs.declared.Told.{Told}
-use Rattle.ends.specs.declared.Told.TheVariants as told
 
 -- a number of at most `most`, or 0 where the word is over it
 unfoldable pub field_of : ℕ → ℕ → ℕ
@@ -45,14 +43,14 @@ abbrev pub eta_code : Eta → ℕ
 eta_code eta.Own = 64
 eta_code (eta.Link e) = e
 
-unfoldable pub told_of : ℕ → ℕ → ℕ → Told
-told_of code n d = cond (eqb code 1) (told.Rate (kept_of n d)) told.Never
+unfoldable pub told_of : ℕ → ℕ → ℕ → Option Rate
+told_of code n d = cond (eqb code 1) (Some (kept_of n d)) None
 
-abbrev pub told_code : Told → ℕ
-told_code told.Never = 0
-told_code (told.Rate x) = 1
+abbrev pub told_code : Option Rate → ℕ
+told_code None = 0
+told_code (Some x) = 1
 
 -- the two words of the rate told: 0 and 0 where none was
-abbrev pub told_rate : Told → Rate
-told_rate told.Never = frac 0 0
-told_rate (told.Rate x) = x
+abbrev pub told_rate : Option Rate → Rate
+told_rate None = frac 0 0
+told_rate (Some x) = x

@@ -1,6 +1,6 @@
 -- Values within their ranges. What is read from a table is so, whatever its words say; what is so is read back as it was written.
 -- Assumes nothing: definitions.
-use Rattle.std.specs.Prelude.{◌≤◌, ◌<◌}
+use Rattle.std.specs.Prelude.{◌≤◌, ◌<◌, None, Option, Some}
 use Rattle.fractions.specs.Fraction.{Sized, Within, max_rate}
 use Rattle.tasks.specs.declared.Eta.{Eta}
 use Rattle.tasks.specs.declared.Eta.TheVariants as eta
@@ -11,8 +11,7 @@ use Rattle.tasks.specs.declared.Packet.{Packet}
 use Rattle.links.specs.declared.Place.{Place}
 use Rattle.links.specs.Links.{Rates}
 use Rattle.ends.specs.declared.Source.{Source}
-use Rattle.ends.specs.declared.Told.{Told}
-use Rattle.ends.specs.declared.Told.TheVariants as told
+use Rattle.fractions.specs.declared.Rate.{Rate}
 
 pub record LinkInRange (l : Link) : Type 0 where
   pub capacity : l.capacity ≤ max_rate
@@ -23,9 +22,9 @@ pub record PlaceInRange (p : Place) : Type 0 where
   pub link : LinkInRange p.link
   pub entries : Rates p.entries
 
-abbrev pub ToldInRange : Told → Type 0
-ToldInRange told.Never = Unit {0}
-ToldInRange (told.Rate x) = Sized max_rate x
+abbrev pub ToldInRange : Option Rate → Type 0
+ToldInRange None = Unit {0}
+ToldInRange (Some x) = Sized max_rate x
 
 pub record SourceInRange (z : Source) : Type 0 where
   pub access : z.access ≤ max_rate
@@ -53,9 +52,9 @@ pub record PacketInRange (p : Packet) : Type 0 where
 
 -- WITH RATES IN LOWEST TERMS: WHAT REFUSAL 14 ASKS OF THE WORDS IN USE ------------------------------------------------
 
-abbrev pub ToldWithin : Told → Type 0
-ToldWithin told.Never = Unit {0}
-ToldWithin (told.Rate x) = Within max_rate x
+abbrev pub ToldWithin : Option Rate → Type 0
+ToldWithin None = Unit {0}
+ToldWithin (Some x) = Within max_rate x
 
 -- the source of a session that has joined
 pub record SourceWithin (z : Source) : Type 0 where

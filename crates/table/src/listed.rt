@@ -113,11 +113,7 @@ pub fn remove(t: &mut [u64; 9153], i: usize)
     ensures { t.new ≡ removed t.old i }
 {
     let n = count(t);
-    let end = 7104 + (n - 1) * 8;
-    let mut j = 7104 + i * 8;
-    while j < end {
-        t[j] = t[j + 8];
-        j += 1;
-    }
+    let a = 7104 + i * 8;
+    t.copy_within(a + 8..7104 + n * 8, a);
     put_count(t, n - 1);
 }

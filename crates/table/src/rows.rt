@@ -60,33 +60,19 @@ fn put_entry(t: &mut [u64; 9153], a: usize, x: Entry)
     t[a + 2] = x.rate.den;
 }
 
-fn blank_row() -> [Entry; 32]
-    ensures { length result ≡ 32 }
-{
-    [Entry {
-        mu: Mu::Idle,
-        rate: Rate { num: 0, den: 0 },
-    }; 32]
-}
-
 fn row_at(t: &[u64; 9153], e: usize) -> [Entry; 32]
     requires { e < 64 }
     ensures { result ≡ row_of t.now e }
 {
-    let mut row = blank_row();
-    for s in 0..32usize {
-        row[s] = entry_at(t, 192 + e * 96 + s * 3);
-    }
-    row
+    std::array::from_fn(|s| entry_at(t, 192 + e * 96 + s * 3))
 }
 
 fn put_row(t: &mut [u64; 9153], e: usize, entries: [Entry; 32])
     requires { e < 64 }
     ensures { t.new ≡ put_row t.old e entries }
 {
-    for s in 0..32usize {
-        let x = entries[s];
-        put_entry(t, 192 + e * 96 + s * 3, x);
+    for (s, x) in entries.iter().enumerate() {
+        put_entry(t, 192 + e * 96 + s * 3, *x);
     }
 }
 

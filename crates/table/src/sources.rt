@@ -1,9 +1,9 @@
 // Sources, and the paths of their sessions.
-ghost use Rattle.std.specs.Prelude.{◌≡◌, ◌+◌, ◌≤◌, ◌<◌, length};
+ghost use Rattle.std.specs.Prelude.{◌≡◌, ◌+◌, ◌≤◌, ◌<◌, length, MatchOption};
 ghost use Rattle.table.specs.Words.{block_at, head_words, hop_of, hops_of, put_hops, put_path, put_rates, put_source, source_from, source_of, stop_of};
 
 use super::fields::{
-    bit, block_at, field, mu_code, mu_of, put_block, told_code, told_of, told_rate, wide,
+    bit, block_at, field, mu_code, mu_of, put_block, told_code, told_of, told_rate,
 };
 use ends::Source;
 use fractions::Rate;
@@ -127,16 +127,7 @@ fn bytes_at(input: &[u8], at: usize) -> [u64; 8]
     requires { at + 8 ≤ length input.now }
     ensures { result ≡ block_at input.now at }
 {
-    [
-        wide(input[at]),
-        wide(input[at + 1]),
-        wide(input[at + 2]),
-        wide(input[at + 3]),
-        wide(input[at + 4]),
-        wide(input[at + 5]),
-        wide(input[at + 6]),
-        wide(input[at + 7]),
-    ]
+    std::array::from_fn(|i| u64::from(input[at + i]))
 }
 
 // The eight link bytes of a path, as they stand in the input from `at` on.
@@ -148,19 +139,11 @@ pub fn put_path(t: &mut [u64; 9153], s: usize, input: &[u8], at: usize)
     put_block(t, 6336 + s * 24 + 16, b);
 }
 
-// The hop of link e on the path of s, counted from 1, or 0 where it is not on it.
-pub fn hop_of(t: &[u64; 9153], s: usize, e: usize) -> u32
+// The hop of link e on the path of s, counted from 1, or none where it is not on it.
+pub fn hop_of(t: &[u64; 9153], s: usize, e: usize) -> Option<u32>
     requires { s < 32 }
-    ensures { result ≡ hop_of t.now s e }
+    ensures { MatchOption result (hop_of t.now s e ≡ 0) (λ h. (0 < h) × (h ≡ hop_of t.now s e)) }
 {
-    let n = hops_at(t, s);
-    let mut hop = 1;
-    for i in 0..n {
-        let stop = stop_at(t, s, i);
-        if stop == e {
-            return hop;
-        }
-        hop += 1;
-    }
-    0
+    let i = (0..hops_at(t, s)).position(|i| stop_at(t, s, i) == e)?;
+    Some(i as u32 + 1)
 }

@@ -3,24 +3,25 @@
 #![tactic(auto)]
 
 mod commands;
-mod names;
+mod playing;
 mod says;
 mod scan;
 
-use says::text;
+use commands::Command;
 use std::io;
 
 // An empty line and a comment say nothing. A line that is not understood, or that could not be done, is printed.
 fn line(rt: &impl Print, t: &mut [u64; 9153], held: &mut [u64; 9153], l: &[u8]) -> io::Result<()> {
-    if l.is_empty() {
+    if matches!(l, [] | [b'#', ..]) {
         return Ok(());
     }
-    if l[0] == b'#' {
-        return Ok(());
-    }
-    if !commands::play(rt, t, held, l)? {
+    let is_done = match Command::of_line(l) {
+        Some(command) => playing::play(rt, t, held, command)?,
+        None => false,
+    };
+    if !is_done {
         rt.print("not done: ")?;
-        text(rt, l)?;
+        rt.write_all(l)?;
         rt.println("")?;
     }
     Ok(())
@@ -37,7 +38,7 @@ fn lines(rt: &impl Print, script: &[u8]) -> io::Result<()> {
 }
 
 fn main(rt: HostRuntime) -> io::Result<()> {
-    let mut script = reading::large_buffer();
+    let mut script = [0u8; 65_536];
     let n = reading::read_full(&mut rt.stdin(), &mut script)?;
     lines(&rt, &script[..n])
 }

@@ -1,66 +1,46 @@
 // What the machine says of a table: `taken N` or `taken N refused R at P`, and where it is asked `settled yes`, `settled no` or
 // `settled refused R at P`. A table that was to stay and did not is `changed`.
-use ends::Told;
-use machine::{Session, SettledAnswer};
-use records::{End, Refusal};
+use machine::Session;
+use records::Refused;
 use std::io;
 
-pub fn text(rt: &impl Print, s: &[u8]) -> io::Result<()> {
-    rt.write_all(s)
-}
-
-// A text and a number.
-pub fn number(rt: &impl Print, name: &str, n: u64) -> io::Result<()> {
-    print!(rt; "{name}{n}")
-}
-
-fn refusal(rt: &impl Print, r: Refusal, place: usize) -> io::Result<()> {
-    number(rt, " refused ", records::number(r))?;
-    number(rt, " at ", place as u64)
-}
-
 // How many records a run took, and how it ended.
-pub fn ran(rt: &impl Print, taken: usize, end: End) -> io::Result<()> {
-    number(rt, ": taken ", taken as u64)?;
+pub fn ran(rt: &impl Print, taken: usize, end: Result<(), Refused>) -> io::Result<()> {
+    print!(rt; ": taken {taken}")?;
     match end {
-        End::Finished => Ok(()),
-        End::Refused { refusal: r, place } => refusal(rt, r, place),
+        Ok(()) => Ok(()),
+        Err(refused) => print!(rt; " {refused}"),
     }
+}
+
+// How many packets are in flight.
+pub fn packets(rt: &impl Print, t: &[u64; 9153]) -> io::Result<()> {
+    print!(rt; " packets {}", machine::in_flight(t))
 }
 
 // Whether the table is settled.
 pub fn settled(rt: &impl Print, t: &[u64; 9153]) -> io::Result<()> {
-    let answer = machine::settled(t);
-    match answer {
-        SettledAnswer::Yes => rt.print(" settled yes"),
-        SettledAnswer::No => rt.print(" settled no"),
-        SettledAnswer::Refused { refusal: r, place } => {
-            rt.print(" settled")?;
-            refusal(rt, r, place)
-        }
+    match machine::settled(t) {
+        Ok(true) => rt.print(" settled yes"),
+        Ok(false) => rt.print(" settled no"),
+        Err(refused) => print!(rt; " settled {refused}"),
     }
 }
 
-// The rate last told.
-pub fn told(rt: &impl Print, x: Session) -> io::Result<()> {
-    match x {
-        Session::NotActive => rt.print(" not active"),
-        Session::Active(y) => match y {
-            Told::Never => rt.print(" none"),
-            Told::Rate(z) => {
-                number(rt, " rate ", z.num)?;
-                number(rt, "/", z.den)
-            }
-        },
+// The rate last told to session 0, and the words of R and F of link 0.
+pub fn told(rt: &impl Print, t: &[u64; 9153]) -> io::Result<()> {
+    match machine::session_at(t, 0) {
+        Session::NotActive => rt.print(" not active")?,
+        Session::Active(None) => rt.print(" none")?,
+        Session::Active(Some(x)) => print!(rt; " rate {x}")?,
     }
+    print!(rt; " R {} F {}", t[1], t[2])
 }
 
 // The line ends, with `changed` where the table is another than it was to be.
 pub fn same(rt: &impl Print, t: &[u64; 9153], expected: &[u64; 9153]) -> io::Result<()> {
-    for i in 0..9153usize {
-        if t[i] != expected[i] {
-            return rt.println(" changed");
-        }
+    if t != expected {
+        rt.print(" changed")?;
     }
     rt.println("")
 }

@@ -1,112 +1,68 @@
 // The parts of a line: words, decimal numbers, and records in hex.
-ghost use Rattle.std.specs.Prelude.{◌≤◌, length};
 
-// The word that a text starts with: its bytes as one number, the number that it writes, and where the text goes on behind the space after it.
-#[derive(Clone, Copy)]
-pub struct Leading {
-    pub name: u64,
-    pub number: u64,
-    pub next: usize,
-}
+// A decimal number is below this.
+const LIMIT: u64 = 1_000_000_000_000;
 
-// A word that is no decimal number has this number, or a larger one.
-pub const NONE: u64 = 1_000_000_000_000;
-
-// The number of a word that has no bytes yet.
-const START: u64 = 2_000_000_000_000;
-
-// A digit's value, or 16.
-fn digit(b: u8) -> u8 {
-    if b < b'0' {
-        return 16;
-    }
-    if b <= b'9' {
-        return b - 48;
-    }
-    if b < b'a' {
-        return 16;
-    }
-    if b <= b'f' {
-        return b - 87;
-    }
-    16
-}
-
-// A decimal number with one byte more.
-fn with_digit(number: u64, b: u8) -> u64 {
-    let d = digit(b);
-    if 9 < d {
-        return NONE;
-    }
-    if number == START {
-        return d as u64;
-    }
-    if NONE <= number {
-        return NONE;
-    }
-    number * 10 + d as u64
-}
-
-// A name with one byte more. Eight bytes fit, and no command has as many.
-fn with_letter(name: u64, b: u8) -> u64 {
-    if 0xff_ffff_ffff_ffff < name {
-        return name;
-    }
-    name * 256 + b as u64
-}
-
-// The word that a text starts with, up to a space or the text's end.
-pub fn word(s: &[u8]) -> Leading
-    ensures { result.next ≤ length s.now }
-{
-    let mut name: u64 = 0;
-    let mut number: u64 = START;
-    for i in 0..s.len() {
-        let b = s[i];
-        if b == b' ' {
-            return Leading {
-                name: name,
-                number: number,
-                next: i + 1,
-            };
-        }
-        name = with_letter(name, b);
-        number = with_digit(number, b);
-    }
-    Leading {
-        name: name,
-        number: number,
-        next: s.len(),
+// The word that a text starts with, up to a space or the text's end, and what stands behind the space.
+pub fn word(s: &[u8]) -> (&[u8], &[u8]) {
+    match s.iter().position(|b| *b == b' ') {
+        Some(i) => (&s[..i], &s[i + 1..]),
+        None => (s, &[]),
     }
 }
 
-// No input has as many bytes.
-const TOO_MANY: usize = 65_537;
+// A name: bytes of 0 before it are no part of it.
+pub fn without_zeros(word: &[u8]) -> &[u8] {
+    match word.iter().position(|b| *b != 0) {
+        Some(i) => &word[i..],
+        None => &[],
+    }
+}
 
-// The records that a text writes in hex, with spaces for the reader, and how many bytes there are; TOO_MANY where the text is no records.
-pub fn records(s: &[u8], input: &mut [u8; 65536]) -> usize {
-    let mut n: usize = 0;
-    let mut high: u8 = 16;
-    for i in 0..s.len() {
-        if s[i] != b' ' {
-            let d = digit(s[i]);
-            if 15 < d {
-                return TOO_MANY;
-            }
-            if 15 < high {
-                high = d;
-            } else {
-                if 65_535 < n {
-                    return TOO_MANY;
-                }
-                input[n] = high * 16 + d;
-                n += 1;
-                high = 16;
-            }
-        }
+// A digit's value, also in hex.
+fn digit(b: u8) -> Option<u8> {
+    match b {
+        b'0'..=b'9' => Some(b - b'0'),
+        b'a'..=b'f' => Some(b - b'a' + 10),
+        _ => None,
     }
-    if high < 16 {
-        return TOO_MANY;
+}
+
+// A decimal number with one digit more. At twice the limit the number begins anew.
+fn with_digit(n: u64, b: u8) -> Option<u64> {
+    let d = digit(b).filter(|d| *d < 10)?;
+    if n == 2 * LIMIT {
+        return Some(u64::from(d));
     }
-    n
+    if LIMIT <= n {
+        return None;
+    }
+    Some(n * 10 + u64::from(d))
+}
+
+// The decimal number that a text starts with, and what stands behind it.
+pub fn number(s: &[u8]) -> Option<(u64, &[u8])> {
+    let (digits, more) = word(s);
+    let (first, others) = digits.split_first()?;
+    let mut n = with_digit(0, *first)?;
+    for b in others {
+        n = with_digit(n, *b)?;
+    }
+    (n < LIMIT).then_some((n, more))
+}
+
+// The records that a text writes in hex, with spaces for the reader.
+pub fn records<'a>(s: &[u8], input: &'a mut [u8; 65536]) -> Option<&'a [u8]> {
+    let mut digits = s.iter().filter(|b| **b != b' ');
+    for n in 0..input.len() {
+        let Some(high) = digits.next() else {
+            return Some(&input[..n]);
+        };
+        let low = digits.next()?;
+        input[n] = digit(*high)? << 4 | digit(*low)?;
+    }
+    match digits.next() {
+        Some(_) => None,
+        None => Some(input),
+    }
 }

@@ -3,7 +3,7 @@
 -- refusal 12, and so are those of the link after it, where those of the link before it were. What reads a B that is too fine goes no further with
 -- it: no comparison holds.
 -- Assumes nothing: definitions.
-use Rattle.std.specs.Prelude.{Bool, cond, false, true, ◌&&◌, ℕ, ◌≤◌, eqb}
+use Rattle.std.specs.Prelude.{Bool, cond, false, true, ◌&&◌, ℕ, ◌≤◌, eqb, None, Option, Some}
 use Rattle.fractions.specs.declared.Rate.{Rate}
 use Rattle.fractions.specs.Fraction.{Sized, lt_of, max_rate, zero_of}
 use Rattle.sessions.specs.Set.{cut, put}
@@ -17,12 +17,9 @@ use Rattle.tasks.specs.declared.Eta.TheVariants as eta
 use Rattle.tasks.specs.declared.Kind.{Kind}
 use Rattle.tasks.specs.declared.Kind.TheVariants as kind
 use Rattle.links.specs.declared.Mu.TheVariants as mu
-use Rattle.tasks.specs.declared.Onward.{Onward}
-use Rattle.tasks.specs.declared.Onward.TheVariants as onward
 use Rattle.links.specs.declared.Place.{Place}
 use Rattle.tasks.specs.declared.Tau.{Tau}
 use Rattle.tasks.specs.declared.Tau.TheVariants as tau
-use Rattle.links.specs.declared.Wanted.TheVariants as wanted
 use Rattle.links.specs.FCheck.{process_of}
 use Rattle.links.specs.Links.{
   B,
@@ -47,20 +44,21 @@ use Rattle.links.specs.Links.{
   with_entry,
   with_mu,
   with_words,
+  idle_at,
 }
 
 -- WHAT A RULE ANSWERS -------------------------------------------------------------------------------------------------
 
 -- the link after it; first a packet of one kind upstream to each session of a word, by rising number, then at most one of its own session
-abbrev pub did : Place → Burst → ℕ → Onward → Bool → Did
+abbrev pub did : Place → Burst → ℕ → Option Kind → Bool → Did
 did p k w o fine = record { place = p; burst = k; to = w; on = o; fine = fine }
 
 -- no session but its own is sent anything
-abbrev pub quiet : Place → Onward → Bool → Did
+abbrev pub quiet : Place → Option Kind → Bool → Did
 quiet p o fine = did p burst.Update 0 o fine
 
 -- μ_r ← WAITING_PROBE and send upstream Update (r), for each r of w
-abbrev pub updating : Place → ℕ → Onward → Bool → Did
+abbrev pub updating : Place → ℕ → Option Kind → Bool → Did
 updating p w o fine = did (waiting_of p w) burst.Update w o fine
 
 -- A PACKET'S RATE ----------------------------------------------------------------------------------------------------
@@ -81,7 +79,7 @@ unfoldable pub join_of : ℕ → ℕ → Rate → Eta → Place → Did
 join_of e s x η p =
     let q = process_of (with_entry (with_words p (put s (R p)) (F p)) s (entry mu.WaitingResponse zero_of)) in  -- 13, 14; 01: a rate of 0/1
     let b = q.bound in
-    did q.place burst.Update q.to (onward.Send (kind.Join (lowered_of b x) (named_of b x e η))) (is_fine b)  -- 15, 16
+    did q.place burst.Update q.to (Some (kind.Join (lowered_of b x) (named_of b x e η))) (is_fine b)  -- 15, 16
 
 -- η = e
 abbrev pub is_link : Eta → ℕ → Bool
@@ -96,8 +94,8 @@ accepted_of b e x η = cond (is_link η e) (equals_b b x) (at_most_b b x)
 unfoldable pub answered_of : Bound → ℕ → ℕ → Tau → Rate → Eta → Place → Did
 answered_of b e s τ x η q =
     cond (all_at_b b q)  -- 25
-    (did q burst.Bottleneck (cut s (R q)) (onward.Send (kind.Response tau.Bottleneck x (eta.Link e))) (is_fine b))  -- 26 to 28
-    (quiet q (onward.Send (kind.Response τ x η)) (is_fine b))  -- 28
+    (did q burst.Bottleneck (cut s (R q)) (Some (kind.Response tau.Bottleneck x (eta.Link e))) (is_fine b))  -- 26 to 28
+    (quiet q (Some (kind.Response τ x η)) (is_fine b))  -- 28
 
 -- lines 21 to 28
 unfoldable pub agreed_of : ℕ → ℕ → Tau → Rate → Eta → Place → Did
@@ -109,7 +107,7 @@ agreed_of e s τ x η p =
 
 -- Response (s, τ, λ, η), lines 18 to 28
 unfoldable pub response_of : ℕ → ℕ → Tau → Rate → Eta → Place → Did
-response_of e s tau.Update x η p = quiet (with_mu p s mu.WaitingProbe) (onward.Send (kind.Response tau.Update x η)) true  -- 19, 28
+response_of e s tau.Update x η p = quiet (with_mu p s mu.WaitingProbe) (Some (kind.Response tau.Update x η)) true  -- 19, 28
 response_of e s tau.Response x η p = agreed_of e s tau.Response x η p  -- 20
 response_of e s tau.Bottleneck x η p = agreed_of e s tau.Bottleneck x η p  -- 20
 
@@ -118,13 +116,13 @@ unfoldable pub restricted_of : ℕ → ℕ → Rate → Eta → Place → Did
 restricted_of e s x η v =
     let q = process_of (with_words v (put s (R v)) (cut s (F v))) in  -- 33, 34
     let b = q.bound in
-    did q.place burst.Update q.to (onward.Send (kind.Probe (lowered_of b x) (named_of b x e η))) (is_fine b)  -- 35, 36
+    did q.place burst.Update q.to (Some (kind.Probe (lowered_of b x) (named_of b x e η))) (is_fine b)  -- 35, 36
 
 -- lines 35 and 36, for a session of R
 unfoldable pub staying_of : ℕ → Rate → Eta → Place → Did
 staying_of e x η v =
     let b = B v in
-    quiet v (onward.Send (kind.Probe (lowered_of b x) (named_of b x e η))) (is_fine b)
+    quiet v (Some (kind.Probe (lowered_of b x) (named_of b x e η))) (is_fine b)
 
 -- Probe (s, λ, η), lines 30 to 36
 unfoldable pub probe_of : ℕ → ℕ → Rate → Eta → Place → Did
@@ -136,33 +134,33 @@ probe_of e s x η p =
 unfoldable pub update_of : ℕ → Place → Did
 update_of s p =
     cond (is_idle (mu_at p s))  -- 39
-    (quiet (with_mu p s mu.WaitingProbe) (onward.Send kind.Update) true)  -- 40
-    (quiet p onward.Nothing true)
+    (quiet (with_mu p s mu.WaitingProbe) (Some kind.Update) true)  -- 40
+    (quiet p None true)
 
 -- Bottleneck (s), lines 42 and 43
 unfoldable pub bottleneck_of : ℕ → Place → Did
-bottleneck_of s p = cond (is_idle (mu_at p s) && in_r p s) (quiet p (onward.Send kind.Bottleneck) true) (quiet p onward.Nothing true)
+bottleneck_of s p = cond (is_idle (mu_at p s) && in_r p s) (quiet p (Some kind.Bottleneck) true) (quiet p None true)
 
 -- lines 49 and 58: {r ∈ w : μ_r = IDLE ∧ λ_r = B}
 abbrev pub idle_at_b : Bound → Place → ℕ → ℕ
-idle_at_b b p w = those_of (wanted.IdleAt b) p.entries w
+idle_at_b b p w = those_of (idle_at b) p.entries w
 
 -- lines 49 to 53; b is the B that line 48 found above the rate of s, so it is not too fine
 unfoldable pub freed_of : Bound → ℕ → Bool → Place → Did
 freed_of b s β p =
     let q = with_words p (cut s (R p)) (put s (F p)) in  -- 52
     updating q (idle_at_b b p (R p))  -- 49 to 51
-    (onward.Send (kind.SetBottleneck β))  -- 53
+    (Some (kind.SetBottleneck β))  -- 53
     (is_fine (B q))
 
 -- SetBottleneck (s, β), lines 45 to 55
 unfoldable pub set_bottleneck_of : ℕ → Bool → Place → Did
 set_bottleneck_of s β p =
     let b = B p in
-    cond (all_at_b b p) (quiet p (onward.Send (kind.SetBottleneck true)) (is_fine b))  -- 46, 47
+    cond (all_at_b b p) (quiet p (Some (kind.SetBottleneck true)) (is_fine b))  -- 46, 47
     (cond (below_b b (rate_at p s) && is_idle (mu_at p s)) (freed_of b s β p)  -- 48 to 53
-    (cond (is_idle (mu_at p s) && equals_b b (rate_at p s)) (quiet p (onward.Send (kind.SetBottleneck β)) (is_fine b))  -- 54, 55
-    (quiet p onward.Nothing (is_fine b))))
+    (cond (is_idle (mu_at p s) && equals_b b (rate_at p s)) (quiet p (Some (kind.SetBottleneck β)) (is_fine b))  -- 54, 55
+    (quiet p None (is_fine b))))
 
 -- line 59: if s ∈ F then F ← F \ {s} else R ← R \ {s}. We leave IDLE and 0/1 in the entry that is no longer there
 unfoldable pub without_of : ℕ → Place → Place
@@ -175,20 +173,20 @@ leave_of s p =
     let b = B p in
     let q = without_of s p in  -- 59
     updating q (idle_at_b b p (cut s (R p)))  -- 58, 60, 61
-    (onward.Send kind.Leave)  -- 62
+    (Some kind.Leave)  -- 62
     (is_fine b && is_fine (B q))
 
 -- THE TASK, with what 01 adds: "A packet other than Join that reaches a link which doesn't hold its session .. is dropped; but a Leave is passed
 -- on"; dropped too are "a Response at a link where its session is not both in R and waiting for a response, and a Join at a link that already
 -- holds its session"
 unfoldable pub link_step_of : ℕ → ℕ → Kind → Place → Did
-link_step_of e s (kind.Join x η) p = cond (holds p s) (quiet p onward.Nothing true) (join_of e s x η p)
-link_step_of e s (kind.Probe x η) p = cond (holds p s) (probe_of e s x η p) (quiet p onward.Nothing true)
-link_step_of e s (kind.Response τ x η) p = cond (in_r p s && awaits_response (mu_at p s)) (response_of e s τ x η p) (quiet p onward.Nothing true)
-link_step_of e s kind.Update p = cond (holds p s) (update_of s p) (quiet p onward.Nothing true)
-link_step_of e s kind.Bottleneck p = cond (holds p s) (bottleneck_of s p) (quiet p onward.Nothing true)
-link_step_of e s (kind.SetBottleneck β) p = cond (holds p s) (set_bottleneck_of s β p) (quiet p onward.Nothing true)
-link_step_of e s kind.Leave p = cond (holds p s) (leave_of s p) (quiet p (onward.Send kind.Leave) true)
+link_step_of e s (kind.Join x η) p = cond (holds p s) (quiet p None true) (join_of e s x η p)
+link_step_of e s (kind.Probe x η) p = cond (holds p s) (probe_of e s x η p) (quiet p None true)
+link_step_of e s (kind.Response τ x η) p = cond (in_r p s && awaits_response (mu_at p s)) (response_of e s τ x η p) (quiet p None true)
+link_step_of e s kind.Update p = cond (holds p s) (update_of s p) (quiet p None true)
+link_step_of e s kind.Bottleneck p = cond (holds p s) (bottleneck_of s p) (quiet p None true)
+link_step_of e s (kind.SetBottleneck β) p = cond (holds p s) (set_bottleneck_of s β p) (quiet p None true)
+link_step_of e s kind.Leave p = cond (holds p s) (leave_of s p) (quiet p (Some kind.Leave) true)
 
 -- WHAT THE ARITHMETIC NEEDS -------------------------------------------------------------------------------------------
 

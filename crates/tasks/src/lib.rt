@@ -10,18 +10,18 @@ ghost use Rattle.tasks.specs.Packets.{goes_down, is_leave, same_way};
 ghost use Rattle.tasks.specs.Figure2.{KindSized, accepted_of, agreed_of, answered_of, bottleneck_of, freed_of, is_link, join_of, leave_of, link_step_of, lowered_of, named_of, probe_of, quiet, response_of, restricted_of, set_bottleneck_of, staying_of, update_of, updating, without_of};
 
 use fractions::Rate;
-use links::{Bound, Entry, Mu, Place, Wanted};
+use links::{Bound, Entry, Mu, Place};
 
 // What a Response asks for.
-#[derive(Clone, Copy)]
+#[derive(Clone, Copy, Debug, PartialEq, Eq)]
 pub enum Tau {
     Response,
     Update,
     Bottleneck,
 }
 
-// The link that imposed a packet's rate: the source's own line, or a link of the path.
-#[derive(Clone, Copy)]
+// The link that imposed a packet's rate: the source's own line, or a link of the path. Both name a line, so this is no Option.
+#[derive(Clone, Copy, Debug, PartialEq, Eq)]
 pub enum Eta {
     Own,
     Link(u32),
@@ -49,27 +49,20 @@ pub struct Packet {
 }
 
 // What a link sends upstream to a set of sessions.
-#[derive(Clone, Copy)]
+#[derive(Clone, Copy, Debug, PartialEq, Eq)]
 pub enum Burst {
     Update,
     Bottleneck,
 }
 
-// What a task sends of its packet's own session.
-#[derive(Clone, Copy)]
-pub enum Onward {
-    Nothing,
-    Send(Kind),
-}
-
-// What a link does with a packet: the link after it; what it sends, first to the sessions of a word by rising number, then of the packet's own;
+// What a link does with a packet: the link after it; what it sends, first to the sessions of a word by rising number, then of the packet's own, if anything;
 // and whether every partial sum and B that was read, and those of the link after it, are within the limit of refusal 12.
 #[derive(Clone, Copy)]
 pub struct Did {
     pub place: Place,
     pub burst: Burst,
     pub to: u32,
-    pub on: Onward,
+    pub on: Option<Kind>,
     pub fine: bool,
 }
 
@@ -77,37 +70,24 @@ pub struct Did {
 pub fn goes_down(kind: Kind) -> bool
     ensures { result ≡ goes_down kind }
 {
-    match kind {
-        Kind::Join(x, eta) => true,
-        Kind::Probe(x, eta) => true,
-        Kind::Response(tau, x, eta) => false,
-        Kind::Update => false,
-        Kind::Bottleneck => false,
-        Kind::SetBottleneck(beta) => true,
-        Kind::Leave => true,
-    }
+    matches!(
+        kind,
+        Kind::Join(..) | Kind::Probe(..) | Kind::SetBottleneck(_) | Kind::Leave
+    )
 }
 
 // Whether both go downstream, or both upstream.
 pub fn same_way(a: bool, b: bool) -> bool
     ensures { result ≡ same_way a b }
 {
-    if a { b } else { !b }
+    a == b
 }
 
 // Whether a packet is a Leave.
 pub fn is_leave(kind: Kind) -> bool
     ensures { result ≡ is_leave kind }
 {
-    match kind {
-        Kind::Join(x, eta) => false,
-        Kind::Probe(x, eta) => false,
-        Kind::Response(tau, x, eta) => false,
-        Kind::Update => false,
-        Kind::Bottleneck => false,
-        Kind::SetBottleneck(beta) => false,
-        Kind::Leave => true,
-    }
+    matches!(kind, Kind::Leave)
 }
 
 // 0/1 and waiting: what a link keeps of a session that joins.
@@ -116,7 +96,7 @@ fn joining_entry() -> Entry
 {
     Entry {
         mu: Mu::WaitingResponse,
-        rate: Rate::zero(),
+        rate: Rate::ZERO,
     }
 }
 
@@ -124,34 +104,29 @@ fn joining_entry() -> Entry
 fn awaits_response(m: Mu) -> bool
     ensures { result ≡ awaits_response m }
 {
-    match m {
-        Mu::Idle => false,
-        Mu::WaitingProbe => false,
-        Mu::WaitingResponse => true,
-    }
+    matches!(m, Mu::WaitingResponse)
 }
 
-// The smaller of a packet's rate and B.
-fn lowered(b: Bound, x: Rate) -> Rate
-    requires { BoundSized b × Sized max_rate x }
-    ensures { result ≡ lowered_of b x }
-{
-    match b {
-        Bound::At(y) => { if y.lt(x) { y } else { x } }
-        Bound::Above => x,
-        Bound::TooFine => x,
-    }
+// The rate that a packet carries, and the line that imposed it: λ and η.
+#[derive(Clone, Copy)]
+struct Carried {
+    rate: Rate,
+    eta: Eta,
 }
 
-// The link that imposed it: this one, if B was smaller.
-fn named(b: Bound, x: Rate, e: u32, eta: Eta) -> Eta
-    requires { BoundSized b × Sized max_rate x }
-    ensures { result ≡ named_of b x e eta }
-{
-    if links::above_b(b, x) {
-        Eta::Link(e)
-    } else {
-        eta
+impl Carried {
+    // Past link e: the smaller of the rate and B, and link e if B was smaller.
+    fn past(self, e: u32, b: Bound) -> Carried
+        requires { BoundSized b × Sized max_rate self.rate }
+        ensures { (result.rate ≡ lowered_of b self.rate) × (result.eta ≡ named_of b self.rate e self.eta) }
+    {
+        match b {
+            Bound::At(rate) if rate.lt(self.rate) => Carried {
+                rate,
+                eta: Eta::Link(e),
+            },
+            _ => self,
+        }
     }
 }
 
@@ -160,9 +135,7 @@ fn awaits_in_r(p: Place, s: u32) -> bool
     requires { s < 32 }
     ensures { result ≡ in_r p s && awaits_response (mu_at p s) }
 {
-    let x = p.entries[s as usize];
-    let m = x.mu;
-    sessions::has(p.link.r, s) && awaits_response(m)
+    sessions::has(p.link.r, s) && awaits_response(p.entries[s as usize].mu)
 }
 
 // Whether session s is idle and in R.
@@ -170,9 +143,7 @@ fn idle_in_r(p: Place, s: u32) -> bool
     requires { s < 32 }
     ensures { result ≡ is_idle (mu_at p s) && in_r p s }
 {
-    let x = p.entries[s as usize];
-    let m = x.mu;
-    links::is_idle(m) && sessions::has(p.link.r, s)
+    links::is_idle(p.entries[s as usize].mu) && sessions::has(p.link.r, s)
 }
 
 // Whether session s is idle with a rate below B.
@@ -181,8 +152,7 @@ fn idle_below_b(b: Bound, p: Place, s: u32) -> bool
     ensures { result ≡ below_b b (rate_at p s) && is_idle (mu_at p s) }
 {
     let x = p.entries[s as usize];
-    let m = x.mu;
-    links::below_b(b, x.rate) && links::is_idle(m)
+    links::below_b(b, x.rate) && links::is_idle(x.mu)
 }
 
 // Whether session s is idle with rate B.
@@ -191,135 +161,120 @@ fn idle_at_b(b: Bound, p: Place, s: u32) -> bool
     ensures { result ≡ is_idle (mu_at p s) && equals_b b (rate_at p s) }
 {
     let x = p.entries[s as usize];
-    let m = x.mu;
-    links::is_idle(m) && links::equals_b(b, x.rate)
-}
-
-// Whether two bounds are fine.
-fn both_fine(a: Bound, b: Bound) -> bool
-    ensures { result ≡ is_fine a && is_fine b }
-{
-    links::is_fine(a) && links::is_fine(b)
+    links::is_idle(x.mu) && links::equals_b(b, x.rate)
 }
 
 // Nobody but the packet's own session is sent anything.
-fn quietly(p: Place, on: Onward, fine: bool) -> Did
+fn quietly(p: Place, on: Option<Kind>, fine: bool) -> Did
     ensures { result ≡ quiet p on fine }
 {
     Did {
         place: p,
         burst: Burst::Update,
         to: 0,
-        on: on,
-        fine: fine,
+        on,
+        fine,
     }
 }
 
 // Each session of w gets an Update and waits for a probe.
-fn updating(p: Place, w: u32, on: Onward, fine: bool) -> Did
+fn updating(p: Place, w: u32, on: Option<Kind>, fine: bool) -> Did
     ensures { result ≡ updating p w on fine }
 {
-    let next = links::waiting(p, w);
     Did {
-        place: next,
+        place: links::waiting(p, w),
         burst: Burst::Update,
         to: w,
-        on: on,
-        fine: fine,
+        on,
+        fine,
     }
 }
 
 // Join.
-fn join_at(e: u32, s: u32, x: Rate, eta: Eta, p: Place) -> Did
-    requires { (s < 32) × Sized max_rate x × Workable p }
-    ensures { result ≡ join_of e s x eta p }
+#[tactic(auto, using(links::proofs::Sizes::process_sized, links::proofs::Sizes::workable_entry, links::proofs::Sizes::workable_words), unfolding(crate::specs::Figure2::join_of))]
+fn join_at(e: u32, s: u32, x: Carried, p: Place) -> Did
+    requires { (s < 32) × Sized max_rate x.rate × Workable p }
+    ensures { result ≡ join_of e s x.rate x.eta p }
 {
     let member = links::with_words(p, sessions::put(p.link.r, s), p.link.f);
     let q = links::process_new_restricted(links::with_entry(member, s, joining_entry()));
-    let next = q.place;
-    let b = q.bound;
-    let rate = lowered(b, x);
-    let name = named(b, x, e, eta);
+    let y = x.past(e, q.bound);
     Did {
-        place: next,
+        place: q.place,
         burst: Burst::Update,
         to: q.to,
-        on: Onward::Send(Kind::Join(rate, name)),
-        fine: links::is_fine(b),
+        on: Some(Kind::Join(y.rate, y.eta)),
+        fine: links::is_fine(q.bound),
     }
 }
 
 // A Probe of a session in F, which returns to R.
-fn restricted(e: u32, s: u32, x: Rate, eta: Eta, v: Place) -> Did
-    requires { (s < 32) × Sized max_rate x × Workable v }
-    ensures { result ≡ restricted_of e s x eta v }
+#[tactic(auto, using(links::proofs::Sizes::process_sized, links::proofs::Sizes::workable_words), unfolding(crate::specs::Figure2::restricted_of))]
+fn restricted(e: u32, s: u32, x: Carried, v: Place) -> Did
+    requires { (s < 32) × Sized max_rate x.rate × Workable v }
+    ensures { result ≡ restricted_of e s x.rate x.eta v }
 {
     let r = sessions::put(v.link.r, s);
     let f = sessions::cut(v.link.f, s);
     let q = links::process_new_restricted(links::with_words(v, r, f));
-    let next = q.place;
-    let b = q.bound;
-    let rate = lowered(b, x);
-    let name = named(b, x, e, eta);
+    let y = x.past(e, q.bound);
     Did {
-        place: next,
+        place: q.place,
         burst: Burst::Update,
         to: q.to,
-        on: Onward::Send(Kind::Probe(rate, name)),
-        fine: links::is_fine(b),
+        on: Some(Kind::Probe(y.rate, y.eta)),
+        fine: links::is_fine(q.bound),
     }
 }
 
 // A Probe of a session in R.
-fn staying(e: u32, x: Rate, eta: Eta, v: Place) -> Did
-    requires { Sized max_rate x × Workable v }
-    ensures { result ≡ staying_of e x eta v }
+#[tactic(auto, using(links::proofs::Sizes::b_sized), unfolding(crate::specs::Figure2::staying_of))]
+fn staying(e: u32, x: Carried, v: Place) -> Did
+    requires { Sized max_rate x.rate × Workable v }
+    ensures { result ≡ staying_of e x.rate x.eta v }
 {
     let b = links::bottleneck_rate(v);
-    let rate = lowered(b, x);
-    let name = named(b, x, e, eta);
-    let fine = links::is_fine(b);
-    quietly(v, Onward::Send(Kind::Probe(rate, name)), fine)
+    let y = x.past(e, b);
+    quietly(v, Some(Kind::Probe(y.rate, y.eta)), links::is_fine(b))
 }
 
 // Probe.
-fn probe_at(e: u32, s: u32, x: Rate, eta: Eta, p: Place) -> Did
-    requires { (s < 32) × Sized max_rate x × Workable p }
-    ensures { result ≡ probe_of e s x eta p }
+#[tactic(auto, using(links::proofs::Sizes::workable_mu), unfolding(crate::specs::Figure2::probe_of))]
+fn probe_at(e: u32, s: u32, x: Carried, p: Place) -> Did
+    requires { (s < 32) × Sized max_rate x.rate × Workable p }
+    ensures { result ≡ probe_of e s x.rate x.eta p }
 {
     let v = links::with_mu(p, s, Mu::WaitingResponse);
     if sessions::has(p.link.f, s) {
-        return restricted(e, s, x, eta, v);
+        return restricted(e, s, x, v);
     }
-    staying(e, x, eta, v)
+    staying(e, x, v)
 }
 
 // Whether a packet's bottleneck is this link.
 fn is_link(eta: Eta, e: u32) -> bool
     ensures { result ≡ is_link eta e }
 {
-    match eta {
-        Eta::Own => false,
-        Eta::Link(n) => n == e,
-    }
+    eta == Eta::Link(e)
 }
 
 // Whether a Response's rate agrees with this link's B.
-fn accepted(b: Bound, e: u32, x: Rate, eta: Eta) -> bool
-    requires { BoundSized b × Sized max_rate x }
-    ensures { result ≡ accepted_of b e x eta }
+fn accepted(b: Bound, e: u32, x: Carried) -> bool
+    requires { BoundSized b × Sized max_rate x.rate }
+    ensures { result ≡ accepted_of b e x.rate x.eta }
 {
-    if is_link(eta, e) {
-        links::equals_b(b, x)
+    if is_link(x.eta, e) {
+        links::equals_b(b, x.rate)
     } else {
-        links::at_most_b(b, x)
+        links::at_most_b(b, x.rate)
     }
 }
 
 // The Response goes on; if all of R is idle with rate B, as a bottleneck's, and the others hear of it.
-fn answered(b: Bound, e: u32, s: u32, tau: Tau, x: Rate, eta: Eta, q: Place) -> Did
+#[tactic(auto, unfolding(crate::specs::Figure2::answered_of))]
+fn answered(b: Bound, e: u32, s: u32, tau: Tau, x: Carried, q: Place) -> Did
     requires { (s < 32) × BoundSized b × Rates q.entries }
-    ensures { result ≡ answered_of b e s tau x eta q }
+    ensures { result ≡ answered_of b e s tau x.rate x.eta q }
 {
     let fine = links::is_fine(b);
     if links::all_at_b(b, q) {
@@ -327,87 +282,89 @@ fn answered(b: Bound, e: u32, s: u32, tau: Tau, x: Rate, eta: Eta, q: Place) -> 
             place: q,
             burst: Burst::Bottleneck,
             to: sessions::cut(q.link.r, s),
-            on: Onward::Send(Kind::Response(Tau::Bottleneck, x, Eta::Link(e))),
-            fine: fine,
+            on: Some(Kind::Response(Tau::Bottleneck, x.rate, Eta::Link(e))),
+            fine,
         };
     }
-    quietly(q, Onward::Send(Kind::Response(tau, x, eta)), fine)
+    quietly(q, Some(Kind::Response(tau, x.rate, x.eta)), fine)
 }
 
 // A Response that asks for no update: taken, or turned into one that does.
-fn agreed(e: u32, s: u32, tau: Tau, x: Rate, eta: Eta, p: Place) -> Did
-    requires { (s < 32) × Sized max_rate x × Workable p }
-    ensures { result ≡ agreed_of e s tau x eta p }
+#[tactic(auto, using(links::proofs::Sizes::b_sized, links::proofs::Sizes::rates_set, links::proofs::Sizes::rates_mu), unfolding(crate::specs::Figure2::agreed_of))]
+fn agreed(e: u32, s: u32, tau: Tau, x: Carried, p: Place) -> Did
+    requires { (s < 32) × Sized max_rate x.rate × Workable p }
+    ensures { result ≡ agreed_of e s tau x.rate x.eta p }
 {
     let b = links::bottleneck_rate(p);
-    if accepted(b, e, x, eta) {
-        let q = links::with_entry(
-            p,
-            s,
-            Entry {
-                mu: Mu::Idle,
-                rate: x,
-            },
-        );
-        return answered(b, e, s, tau, x, eta, q);
+    if accepted(b, e, x) {
+        let taken = Entry {
+            mu: Mu::Idle,
+            rate: x.rate,
+        };
+        return answered(b, e, s, tau, x, links::with_entry(p, s, taken));
     }
     let v = links::with_mu(p, s, Mu::WaitingProbe);
-    answered(b, e, s, Tau::Update, x, eta, v)
+    answered(b, e, s, Tau::Update, x, v)
 }
 
 // Response.
-fn response_at(e: u32, s: u32, tau: Tau, x: Rate, eta: Eta, p: Place) -> Did
-    requires { (s < 32) × Sized max_rate x × Workable p }
-    ensures { result ≡ response_of e s tau x eta p }
+#[tactic(auto, unfolding(crate::specs::Figure2::response_of))]
+fn response_at(e: u32, s: u32, tau: Tau, x: Carried, p: Place) -> Did
+    requires { (s < 32) × Sized max_rate x.rate × Workable p }
+    ensures { result ≡ response_of e s tau x.rate x.eta p }
 {
     match tau {
         Tau::Update => {
             let v = links::with_mu(p, s, Mu::WaitingProbe);
-            quietly(v, Onward::Send(Kind::Response(Tau::Update, x, eta)), true)
+            quietly(v, Some(Kind::Response(Tau::Update, x.rate, x.eta)), true)
         }
-        Tau::Response => agreed(e, s, Tau::Response, x, eta, p),
-        Tau::Bottleneck => agreed(e, s, Tau::Bottleneck, x, eta, p),
+        _ => agreed(e, s, tau, x, p),
     }
 }
 
 // Update.
+#[tactic(auto, unfolding(crate::specs::Figure2::update_of))]
 fn update_at(s: u32, p: Place) -> Did
     requires { s < 32 }
     ensures { result ≡ update_of s p }
 {
-    let x = p.entries[s as usize];
-    let m = x.mu;
-    if links::is_idle(m) {
+    if links::is_idle(p.entries[s as usize].mu) {
         let v = links::with_mu(p, s, Mu::WaitingProbe);
-        return quietly(v, Onward::Send(Kind::Update), true);
+        return quietly(v, Some(Kind::Update), true);
     }
-    quietly(p, Onward::Nothing, true)
+    quietly(p, None, true)
 }
 
 // Bottleneck.
+#[tactic(auto, unfolding(crate::specs::Figure2::bottleneck_of))]
 fn bottleneck_at(s: u32, p: Place) -> Did
     requires { s < 32 }
     ensures { result ≡ bottleneck_of s p }
 {
     if idle_in_r(p, s) {
-        return quietly(p, Onward::Send(Kind::Bottleneck), true);
+        return quietly(p, Some(Kind::Bottleneck), true);
     }
-    quietly(p, Onward::Nothing, true)
+    quietly(p, None, true)
 }
 
 // A session whose rate is below B goes to F.
+#[tactic(auto, using(links::proofs::Sizes::workable_words), unfolding(crate::specs::Figure2::freed_of))]
 fn freed(b: Bound, s: u32, beta: bool, p: Place) -> Did
     requires { (s < 32) × BoundSized b × Workable p }
     ensures { result ≡ freed_of b s beta p }
 {
     let q = links::with_words(p, sessions::cut(p.link.r, s), sessions::put(p.link.f, s));
-    let at = links::those(Wanted::IdleAt(b), p, p.link.r);
-    let after = links::bottleneck_rate(q);
-    let fine = links::is_fine(after);
-    updating(q, at, Onward::Send(Kind::SetBottleneck(beta)), fine)
+    let fine = links::is_fine(links::bottleneck_rate(q));
+    updating(
+        q,
+        links::those_at_b(b, p, p.link.r),
+        Some(Kind::SetBottleneck(beta)),
+        fine,
+    )
 }
 
 // SetBottleneck.
+#[tactic(auto, using(links::proofs::Sizes::b_sized), unfolding(crate::specs::Figure2::set_bottleneck_of))]
 fn set_bottleneck_at(s: u32, beta: bool, p: Place) -> Did
     requires { (s < 32) × Workable p }
     ensures { result ≡ set_bottleneck_of s beta p }
@@ -415,25 +372,26 @@ fn set_bottleneck_at(s: u32, beta: bool, p: Place) -> Did
     let b = links::bottleneck_rate(p);
     let fine = links::is_fine(b);
     if links::all_at_b(b, p) {
-        return quietly(p, Onward::Send(Kind::SetBottleneck(true)), fine);
+        return quietly(p, Some(Kind::SetBottleneck(true)), fine);
     }
     if idle_below_b(b, p, s) {
         return freed(b, s, beta, p);
     }
     if idle_at_b(b, p, s) {
-        return quietly(p, Onward::Send(Kind::SetBottleneck(beta)), fine);
+        return quietly(p, Some(Kind::SetBottleneck(beta)), fine);
     }
-    quietly(p, Onward::Nothing, fine)
+    quietly(p, None, fine)
 }
 
 // The link without session s.
+#[tactic(auto, unfolding(crate::specs::Figure2::without_of))]
 fn without(s: u32, p: Place) -> Place
     requires { s < 32 }
     ensures { result ≡ without_of s p }
 {
     let gone = Entry {
         mu: Mu::Idle,
-        rate: Rate::zero(),
+        rate: Rate::ZERO,
     };
     if sessions::has(p.link.f, s) {
         let f = sessions::cut(p.link.f, s);
@@ -444,39 +402,41 @@ fn without(s: u32, p: Place) -> Place
 }
 
 // Leave.
+#[tactic(auto, using(links::proofs::Sizes::b_sized, crate::proofs::Leaves::workable_without), unfolding(crate::specs::Figure2::leave_of))]
 fn leave_at(s: u32, p: Place) -> Did
     requires { (s < 32) × Workable p }
     ensures { result ≡ leave_of s p }
 {
     let b = links::bottleneck_rate(p);
     let others = sessions::cut(p.link.r, s);
-    let at = links::those(Wanted::IdleAt(b), p, others);
+    let at = links::those_at_b(b, p, others);
     let q = without(s, p);
-    let after = links::bottleneck_rate(q);
-    let fine = both_fine(b, after);
-    updating(q, at, Onward::Send(Kind::Leave), fine)
+    let fine = links::is_fine(b) && links::is_fine(links::bottleneck_rate(q));
+    updating(q, at, Some(Kind::Leave), fine)
 }
 
 // A Response, where its session is in R and waits for one; else it is dropped.
-fn response_or_dropped(e: u32, s: u32, tau: Tau, x: Rate, eta: Eta, p: Place) -> Did
-    requires { (s < 32) × Sized max_rate x × Workable p }
-    ensures { result ≡ link_step_of e s (kind.Response tau x eta) p }
+#[tactic(auto, unfolding(crate::specs::Figure2::link_step_of))]
+fn response_or_dropped(e: u32, s: u32, tau: Tau, x: Carried, p: Place) -> Did
+    requires { (s < 32) × Sized max_rate x.rate × Workable p }
+    ensures { result ≡ link_step_of e s (kind.Response tau x.rate x.eta) p }
 {
     if awaits_in_r(p, s) {
-        return response_at(e, s, tau, x, eta, p);
+        return response_at(e, s, tau, x, p);
     }
-    quietly(p, Onward::Nothing, true)
+    quietly(p, None, true)
 }
 
 // A packet of a session that the link holds.
+#[tactic(auto, unfolding(crate::specs::Figure2::link_step_of))]
 fn held(e: u32, s: u32, kind: Kind, p: Place) -> Did
     requires { (s < 32) × KindSized kind × Workable p × (holds p s ≡ true) }
     ensures { result ≡ link_step_of e s kind p }
 {
     match kind {
-        Kind::Join(x, eta) => quietly(p, Onward::Nothing, true),
-        Kind::Probe(x, eta) => probe_at(e, s, x, eta, p),
-        Kind::Response(tau, x, eta) => response_or_dropped(e, s, tau, x, eta, p),
+        Kind::Join(..) => quietly(p, None, true),
+        Kind::Probe(rate, eta) => probe_at(e, s, Carried { rate, eta }, p),
+        Kind::Response(tau, rate, eta) => response_or_dropped(e, s, tau, Carried { rate, eta }, p),
         Kind::Update => update_at(s, p),
         Kind::Bottleneck => bottleneck_at(s, p),
         Kind::SetBottleneck(beta) => set_bottleneck_at(s, beta, p),
@@ -485,18 +445,15 @@ fn held(e: u32, s: u32, kind: Kind, p: Place) -> Did
 }
 
 // A packet of a session that the link does not hold.
+#[tactic(auto, unfolding(crate::specs::Figure2::link_step_of))]
 fn not_held(e: u32, s: u32, kind: Kind, p: Place) -> Did
     requires { (s < 32) × KindSized kind × Workable p × (holds p s ≡ false) }
     ensures { result ≡ link_step_of e s kind p }
 {
     match kind {
-        Kind::Join(x, eta) => join_at(e, s, x, eta, p),
-        Kind::Probe(x, eta) => quietly(p, Onward::Nothing, true),
-        Kind::Response(tau, x, eta) => quietly(p, Onward::Nothing, true),
-        Kind::Update => quietly(p, Onward::Nothing, true),
-        Kind::Bottleneck => quietly(p, Onward::Nothing, true),
-        Kind::SetBottleneck(beta) => quietly(p, Onward::Nothing, true),
-        Kind::Leave => quietly(p, Onward::Send(Kind::Leave), true),
+        Kind::Join(rate, eta) => join_at(e, s, Carried { rate, eta }, p),
+        Kind::Leave => quietly(p, Some(Kind::Leave), true),
+        _ => quietly(p, None, true),
     }
 }
 

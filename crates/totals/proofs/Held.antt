@@ -1,5 +1,6 @@
 -- The sessions that a link of a table holds, as one word, and a link that holds nobody.
 -- Assumes nothing.
+use Rattle.std.specs.Prelude.{Ok}
 use mathlib.Core.Bool.{false}
 use mathlib.Core.List.{List}
 use mathlib.Core.Path.{ap, sym, ◌∙◌, ◌≡◌}
@@ -8,7 +9,6 @@ use lib.Bits.{bit_or}
 use lib.Dec.{eqb}
 use Rattle.fractions.specs.Fraction.{zero_of}
 use Rattle.fractions.proofs.Cases.{or_false}
-use Rattle.links.specs.declared.Total.TheVariants as total
 use Rattle.links.specs.Links.{holds, in_f, in_r, sum_of}
 use Rattle.links.proofs.Bounds.{sum_none}
 use Rattle.sessions.specs.Set.{has, has_of}
@@ -33,5 +33,5 @@ module _ (w : List ℕ) (e : ℕ) where
     pub nobody_held : (s : ℕ) → (in_r (place_of w e) s ≡ false) × (in_f (place_of w e) s ≡ false)
     nobody_held s = out_of_both s (ap (has s) z ∙ has_zero s)
 
-    pub none_summed : sum_of (place_of w e) ≡ total.Rate zero_of
+    pub none_summed : sum_of (place_of w e) ≡ Ok zero_of
     none_summed = sum_none (place_of w e) (nobody 32 (link_of w e).f (f_below w e) (λ s l. (nobody_held s).1))

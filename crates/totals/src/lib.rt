@@ -8,43 +8,35 @@ ghost use Rattle.links.specs.Links.{TotalSized, bound_of, is_fine, sum_of, total
 ghost use Rattle.table.specs.Words.{place_of};
 
 use fractions::Rate;
-use links::Total;
+use links::NoTotal;
 
 // The sum of F of link e, by rising session number.
-pub fn sum_at(t: &[u64; 9153], e: usize) -> Total
+pub fn sum_at(t: &[u64; 9153], e: usize) -> Result<Rate, NoTotal>
     requires { e < 64 }
     ensures exact { result ≡ sum_of (place_of t.now e) }
     ensures said { total_said result ≡ total_said (sum_of (place_of t.now e)) }
 {
     let l = table::link_at(t, e);
     let capacity = l.capacity;
-    let mut total = Total::Rate(Rate::zero());
-    let mut left = l.f;
-    while left != 0 {
-        let s = sessions::next(left);
+    let mut total = Ok(Rate::ZERO);
+    for s in sessions::each(l.f) {
         let x = table::entry_in(t, e, s as usize);
         total = links::more(capacity, total, x.rate);
-        left = sessions::cut(left, s);
     }
     total
 }
 
 // Whether B is within refusal 12 at a link of this capacity with so many members of R, whose F comes to a total. A share whose denominator is
 // within the limit before it is put into lowest terms is so afterwards.
-pub fn is_bound_fine(capacity: u64, count: u32, total: Total) -> bool
+pub fn is_bound_fine(capacity: u64, count: u32, total: Result<Rate, NoTotal>) -> bool
     requires { (capacity ≤ max_rate) × (count ≤ 32) × TotalSized capacity total }
     ensures { result ≡ is_fine (bound_of capacity count total) }
 {
     match total {
-        Total::Rate(y) => {
-            let d = y.den;
-            if d * (count as u64) <= Rate::MAX_DEN {
-                return true;
-            }
-            let b = links::bound_from(capacity, count, Total::Rate(y));
-            links::is_fine(b)
+        Ok(y) => {
+            y.den * (count as u64) <= Rate::MAX_DEN
+                || links::is_fine(links::bound_from(capacity, count, total))
         }
-        Total::TooFine => false,
-        Total::PastC => true,
+        Err(e) => e == NoTotal::PastC,
     }
 }

@@ -1,6 +1,7 @@
 -- 02, §3: "reading and writing a file in this order gives its bytes back": an input that the calculation's reader accepts, and that is in the writer's
 -- order, is what is written of its declarations.
 -- Assumes nothing.
+use Rattle.std.specs.Prelude.{Ok}
 use mathlib.Core.Bool.{◌&&◌, cond, true}
 use mathlib.Core.List.{List}
 use mathlib.Core.Logic.{◌⊎◌, inl, inr}
@@ -12,11 +13,9 @@ use lib.Dec.{leb, ltb}
 use lib.ListN.{get_or, length}
 use Rattle.fractions.proofs.Cases.{and_both}
 use Rattle.sessions.proofs.Members.{has_zero}
-use Rattle.records.specs.Format.{Bytes, RecordOk, be2, be4, body_of, read_at, size_at}
+use Rattle.records.specs.Format.{a_session, Bytes, RecordOk, be2, be4, body_of, read_at, size_at}
 use Rattle.records.specs.Run.{Ran, judged, run_from}
 use Rattle.records.specs.declared.Call.TheVariants as call
-use Rattle.records.specs.declared.End.TheVariants as end
-use Rattle.records.specs.declared.Read.TheVariants as read
 use Rattle.records.specs.declared.Record.{Record}
 use Rattle.records.specs.declared.Record.TheVariants as rec
 use Rattle.records.proofs.ReadRecords.{judged_read, judged_record_ends, judged_record_ok}
@@ -32,7 +31,7 @@ use Rattle.writing.proofs.ReadShapes.{IsLink, IsSession, link_bytes, read_shape,
 -- ANY RECORD ----------------------------------------------------------------------------------------------------------
 
 module _ (s : List ℕ) (bytes : Bytes s) (z : Declared) (low at : ℕ) (o : Open z low) (x : Record)
-    (taken : judged (read_at call.Calculation s at) (judging s z) ≡ read.Record x) (rises : low ≤ be2 s at) where
+    (taken : judged (read_at call.Calculation s at) (judging s z) ≡ Ok x) (rises : low ≤ be2 s at) where
   ends : at + size_at s at ≤ length s
   ends = judged_record_ends call.Calculation s at (judging s z) x taken
 
@@ -83,10 +82,10 @@ module _ (s : List ℕ) (bytes : Bytes s) (z : Declared) (low at : ℕ) (o : Ope
       let a = be4 s (at + 2) in
       let m = be4 s (at + 6) in
       let n = get_or s (at + 10) 0 in
-      let y = rec.Session t a m n (at + 11) in
+      let y = a_session t a m n (at + 11) in
       let f : be2 s at + 1 ≡ 513 + t = omega (arith, key 2 k.kind) in
       let g : at + size_at s at ≡ at + 19 = ap (λ (v : ℕ). at + v) (size 2 k.kind) in
-      let fits : RecordOk s (rec.Session t a m n (at + 11)) = subst (RecordOk s) k.what ok in
+      let fits : RecordOk s (a_session t a m n (at + 11)) = subst (RecordOk s) k.what ok in
       let low-t : low ≤ 512 + t = omega (arith, key 2 k.kind) in (
         open_as y (513 + t) k.what f (session_open s z low at t a m n fits.0 low-t o),
         λ d r.
@@ -112,7 +111,7 @@ module _ (s : List ℕ) (bytes : Bytes s) where
   abbrev run : ℕ → Declared → ℕ → ℕ → Ran Declared
   run k z n at = run_from call.Calculation (judging s) (declare_of s) s k z n at
 
-  back_from : (k : ℕ) (z : Declared) (n at low : ℕ) → length s ≤ at + k → Open z low → (run k z n at).end ≡ end.Finished → rises_from k s at low ≡ true
+  back_from : (k : ℕ) (z : Declared) (n at low : ℕ) → length s ≤ at + k → Open z low → (run k z n at).end ≡ Ok tt → rises_from k s at low ≡ true
       → Rest s z (run k z n at).state low at
   unfolding run_from rises_from
   back_from zero z n at low h o e r = rest_end s z low at (omega arith) o
@@ -120,7 +119,7 @@ module _ (s : List ℕ) (bytes : Bytes s) where
     where
       go : (length s ≤ at) ⊎ TookOne call.Calculation (judging s) (declare_of s) s k z n at
           → cond (ltb at (length s)) (leb low (be2 s at) && rises_from k s (at + size_at s at) (be2 s at + 1)) true ≡ true
-          → ((y : Declared) (m p q : ℕ) → length s ≤ p + k → Open y q → (run k y m p).end ≡ end.Finished → rises_from k s p q ≡ true
+          → ((y : Declared) (m p q : ℕ) → length s ≤ p + k → Open y q → (run k y m p).end ≡ Ok tt → rises_from k s p q ≡ true
           → Rest s y (run k y m p).state q p)
           → Rest s z (run (suc k) z n at).state low at
       go (inl l) g again =
@@ -141,6 +140,6 @@ open_none =
     }
 
 -- an accepted input in the writer's order is what is written of its declarations
-pub bytes_back : (s : List ℕ) → Bytes s → (declarations_of s).end ≡ end.Finished → in_order s ≡ true → records_of (declarations_of s).declared ≡ s
+pub bytes_back : (s : List ℕ) → Bytes s → (declarations_of s).end ≡ Ok tt → in_order s ≡ true → records_of (declarations_of s).declared ≡ s
 unfolding declarations_of records_of in_order
 bytes_back s bytes e i = sym (back_from s bytes (length s) none_declared 0 0 0 (omega arith) open_none e i).bytes

@@ -1,5 +1,6 @@
 -- What an input declares is a set that can be declared (`Declarable`), as every record that is taken leaves one.
 -- Assumes nothing.
+use Rattle.std.specs.Prelude.{Ok}
 use mathlib.Core.Bool.{false, true}
 use mathlib.Core.List.{List}
 use mathlib.Core.Logic.{◌⊎◌, inl, inr}
@@ -12,17 +13,16 @@ use lib.Seq.{get_or-set_other, get_or-set_same}
 use Rattle.fractions.proofs.Cases.{chose_first, chose_second, order}
 use Rattle.sessions.specs.Set.{has, has_of, put}
 use Rattle.sessions.proofs.Members.{has_put_other, has_zero, put_lt}
-use Rattle.records.specs.Format.{Bytes, RecordOk, path_ok, rate_ok}
+use Rattle.records.specs.Format.{a_session, Bytes, RecordOk, path_ok, rate_ok}
 use Rattle.records.specs.Limits.{above_line}
 use Rattle.records.specs.declared.Call.TheVariants as call
 use Rattle.records.specs.declared.Record.{Record}
 use Rattle.records.specs.declared.Record.TheVariants as rec
 use Rattle.records.specs.declared.Refusal.TheVariants as refusal
-use Rattle.records.specs.declared.Verdict.TheVariants as verdict
 use Rattle.records.proofs.PathBytes.{path_same}
 use Rattle.records.proofs.Rates.{rate_passes}
 use Rattle.records.proofs.ReadRecords.{path_size_lem}
-use Rattle.records.proofs.Refused.{not_taken}
+use Rattle.records.proofs.Refusing.{not_ok}
 use Rattle.records.proofs.Runs.{run_keeps}
 use Rattle.declarations.specs.Declaring.{copied, declarations_of, declare_of, judge_of, judging, none_declared, path_declared}
 use Rattle.declarations.specs.declared.Declared.{Declared}
@@ -93,7 +93,7 @@ link_kept s d e c k r =
 
 -- A SESSION -----------------------------------------------------------------------------------------------------------
 
-module _ (s : List ℕ) (d : Declared) (b a m n at : ℕ) (k : Kept d) (r : RecordOk s (rec.Session b a m n at))
+module _ (s : List ℕ) (d : Declared) (b a m n at : ℕ) (k : Kept d) (r : RecordOk s (a_session b a m n at))
     (line : above_line a m ≡ false) (known : path_declared d.links s at n ≡ true) where
   abbrev new : List ℕ
   new = copied 8 d.path (b * 8) s at
@@ -148,7 +148,7 @@ module _ (s : List ℕ) (d : Declared) (b a m n at : ℕ) (k : Kept d) (r : Reco
       rw (get_or-set_other d.access b t a 0 (λ e. f (sym e)), get_or-set_other d.maximum b t m 0 (λ e. f (sym e)))
       (k.ok.line t h (member_was b t d.sessions i f))
 
-  session_kept : Kept (declare_of s d (rec.Session b a m n at))
+  session_kept : Kept (declare_of s d (a_session b a m n at))
   unfolding declare_of
   session_kept =
       record {
@@ -167,24 +167,24 @@ module _ (s : List ℕ) (d : Declared) (b a m n at : ℕ) (k : Kept d) (r : Reco
               path = λ t h i. ok_at t h i (ℕ_discrete b t);
               declared = λ t h i. declared_at t h i (ℕ_discrete b t);
             };
-        lengths = declare_lengths s d (rec.Session b a m n at) k.lengths;
+        lengths = declare_lengths s d (a_session b a m n at) k.lengths;
       }
 
 -- ANY RECORD, ANY INPUT -----------------------------------------------------------------------------------------------
 
-record_kept : (s : List ℕ) (d : Declared) (x : Record) → Kept d → RecordOk s x → judging s d x ≡ verdict.Taken → Kept (declare_of s d x)
+record_kept : (s : List ℕ) (d : Declared) (x : Record) → Kept d → RecordOk s x → judging s d x ≡ Ok tt → Kept (declare_of s d x)
 unfolding judge_of
 record_kept s d (rec.Link e c) k r t = link_kept s d e c k r
-record_kept s d (rec.Session b a m n at) k r t =
-    let one = chose_second _ (has_of b d.sessions) t (not_taken refusal.AlreadyThere) in
+record_kept s d (rec.Session x) k r t =
+    let one = chose_second _ (has_of x.session d.sessions) t (not_ok refusal.AlreadyThere tt) in
     let rest = rw one at t in
-    let two = chose_second _ (above_line a m) rest (not_taken refusal.AboveLine) in
+    let two = chose_second _ (above_line x.access x.maximum) rest (not_ok refusal.AboveLine tt) in
     let last = rw two at rest in
-    let three = (chose_first (path_declared d.links s at n) last (not_taken refusal.UndeclaredLink)).0 in
-    session_kept s d b a m n at k r two three
-record_kept s d (rec.Leave u) k r t = absurd (not_taken refusal.KindNotTaken t)
-record_kept s d (rec.Change u m) k r t = absurd (not_taken refusal.KindNotTaken t)
-record_kept s d (rec.Deliver p) k r t = absurd (not_taken refusal.KindNotTaken t)
+    let three = (chose_first (path_declared d.links s x.path x.size) last (not_ok refusal.UndeclaredLink tt)).0 in
+    session_kept s d x.session x.access x.maximum x.size x.path k r two three
+record_kept s d (rec.Leave u) k r t = absurd (not_ok refusal.KindNotTaken tt t)
+record_kept s d (rec.Change u m) k r t = absurd (not_ok refusal.KindNotTaken tt t)
+record_kept s d (rec.Deliver p) k r t = absurd (not_ok refusal.KindNotTaken tt t)
 
 -- what an input declares, up to its end or to the record that is refused, can be declared
 pub declarations_declarable : (s : List ℕ) → Bytes s → Declarable (declarations_of s).declared

@@ -1,6 +1,7 @@
 -- 02, §3: "Reading the output gives the same declarations": the calculation's reader takes all records of a set that can be declared, and gives an
 -- equal set.
 -- Assumes nothing.
+use Rattle.std.specs.Prelude.{Ok}
 use mathlib.Core.Bool.{false, true}
 use mathlib.Core.List.{List, ◌++◌}
 use mathlib.Core.Logic.{◌⊎◌, inl, inr}
@@ -13,9 +14,9 @@ use Rattle.fractions.proofs.Cases.{last}
 use Rattle.sessions.specs.Set.{has, has_of, put}
 use Rattle.sessions.proofs.Members.{has_put_other, has_put_same, has_zero, is_in, is_out, member_below, out_is, put_lt, same_members}
 use Rattle.fairness.specs.Figure1.{values}
+use Rattle.records.specs.Format.{a_session}
 use Rattle.records.specs.Limits.{above_line}
 use Rattle.records.specs.declared.Call.TheVariants as call
-use Rattle.records.specs.declared.End.TheVariants as end
 use Rattle.records.specs.declared.Record.TheVariants as rec
 use Rattle.records.proofs.PathBytes.{path_same}
 use Rattle.records.proofs.ReadRecords.{path_size_lem}
@@ -159,7 +160,7 @@ sessions_skip d b z q r =
 module _ (d : Declared) (ok : Declarable d) (s : List ℕ) where
   sessions_next : (b at : ℕ) (z : Declared) → b < 32 → has b d.sessions ≡ 1 → SessionsRead d b z
       → ((h : ℕ) → h < 8 → get_or s (at + h) 0 ≡ byte_at d.path b h)
-      → SessionsRead d (suc b) (declare_of s z (rec.Session b (get_or d.access b 0) (get_or d.maximum b 0) (path_size d.path b) at))
+      → SessionsRead d (suc b) (declare_of s z (a_session b (get_or d.access b 0) (get_or d.maximum b 0) (path_size d.path b) at))
   unfolding declare_of
   sessions_next b at z h m r bytes =
       record {
@@ -171,7 +172,7 @@ module _ (d : Declared) (ok : Declarable d) (s : List ℕ) where
         access = λ t l i. set_old z.access d.access b _ t (omega (arith, r.lengths.access)) refl (last l) (λ k. r.access t k i);
         maximum = λ t l i. set_old z.maximum d.maximum b _ t (omega (arith, r.lengths.maximum)) refl (last l) (λ k. r.maximum t k i);
         path = λ t l i j k. path t (last l) i j k;
-        lengths = declare_lengths s z (rec.Session b (get_or d.access b 0) (get_or d.maximum b 0) (path_size d.path b) at) r.lengths;
+        lengths = declare_lengths s z (a_session b (get_or d.access b 0) (get_or d.maximum b 0) (path_size d.path b) at) r.lengths;
       }
     where
       old : (t : ℕ) → (t < b) ⊎ (t ≡ b) → has t (put b z.sessions) ≡ has t d.sessions
@@ -206,7 +207,7 @@ module _ (d : Declared) (ok : Declarable d) (s : List ℕ) where
       ∙ declared_same s (at + 11) d.path (b * 8) bytes d.links size small
       ∙ ok.declared b h m in
       record {
-        what = rec.Session b access maximum size (at + 11);
+        what = a_session b access maximum size (at + 11);
         taken = rw (session_read s at b access maximum size (byte_at d.path b) there call.Calculation h (ok.access b h m) (ok.maximum b h m) path, out, line, known) refl;
         long = session_size s at b access maximum size (byte_at d.path b) there;
         some = omega arith;
@@ -229,7 +230,7 @@ sessions_done d z ok r =
 
 -- the output is accepted whole, and reading it gives an equal set
 pub read_back : (d : Declared) → Declarable d
-    → ((declarations_of (records_of d)).end ≡ end.Finished) × SameSet d (declarations_of (records_of d)).declared
+    → ((declarations_of (records_of d)).end ≡ Ok tt) × SameSet d (declarations_of (records_of d)).declared
 unfolding declarations_of records_of values
 read_back d ok =
     let s = link_records d.links d.capacity ++ session_records d.sessions d.access d.maximum d.path in

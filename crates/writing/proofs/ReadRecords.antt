@@ -1,5 +1,6 @@
 -- A record that was written is read as what it was written from, by whichever call takes its kind.
 -- Assumes nothing.
+use Rattle.std.specs.Prelude.{Ok}
 use mathlib.Core.Bool.{true}
 use mathlib.Core.List.{List, [], ◌∷◌, ◌++◌}
 use mathlib.Core.Path.{◌≡◌, ap, refl, ◌∙◌}
@@ -11,10 +12,9 @@ use lib.ListN.{get_or, length}
 use lib.Seq.{get_or-append-add}
 use Rattle.fairness.specs.Figure1.{values}
 use Rattle.fairness.proofs.Running.{values_at}
-use Rattle.records.specs.Format.{be4, body_at, body_of, link_at, path_ok, rate_ok, read_at, session_at, size_at, takes_of}
+use Rattle.records.specs.Format.{a_session, be4, body_at, body_of, link_at, path_ok, rate_ok, read_at, session_at, size_at, takes_of}
 use Rattle.records.specs.declared.Call.{Call}
 use Rattle.records.specs.declared.Call.TheVariants as call
-use Rattle.records.specs.declared.Read.TheVariants as read
 use Rattle.records.specs.declared.Record.TheVariants as rec
 use Rattle.records.proofs.Rates.{rate_is}
 use Rattle.writing.specs.Writing.{bytes4, link_record, session_record}
@@ -51,7 +51,7 @@ module _ (s : List ℕ) (at e capacity : ℕ) (there : Stands s at (link_record 
   unfolding size_at body_of
   link_size = ap (λ (k : ℕ). 1 + body_of k) link_kind
 
-  pub link_read : (c : Call) → e < 64 → rate_ok capacity ≡ true → read_at c s at ≡ read.Record (rec.Link e capacity)
+  pub link_read : (c : Call) → e < 64 → rate_ok capacity ≡ true → read_at c s at ≡ Ok (rec.Link e capacity)
   unfolding read_at body_at link_at
   link_read c h r =
       let number : get_or s (at + 1) 0 ≡ e = there.byte 1 (omega arith) (at + 1) refl in
@@ -82,7 +82,7 @@ module _ (s : List ℕ) (at t access maximum size : ℕ) (path : ℕ → ℕ) (t
       ∙ values_at 8 h path 0 l
 
   pub session_read : (c : Call) → t < 32 → rate_ok access ≡ true → maximum ≤ 1000000 → path_ok s (at + 11) size ≡ true
-      → read_at c s at ≡ read.Record (rec.Session t access maximum size (at + 11))
+      → read_at c s at ≡ Ok (a_session t access maximum size (at + 11))
   unfolding read_at body_at session_at values
   session_read c h r m p =
       let number : get_or s (at + 1) 0 ≡ t = there.byte 1 (omega arith) (at + 1) refl in

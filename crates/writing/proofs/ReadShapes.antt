@@ -1,5 +1,6 @@
 -- What a record of the calculation's input is, byte by byte, where it is read: a link's or a session's, and its bytes those that are written for it.
 -- Assumes nothing.
+use Rattle.std.specs.Prelude.{Result, Ok, Err}
 use mathlib.Core.Bool.{◌&&◌, ◌||◌, false, true}
 use mathlib.Core.List.{List, [], ◌∷◌, ◌++◌}
 use mathlib.Core.Logic.{◌⊎◌, inl, inr}
@@ -12,12 +13,11 @@ use lib.ListN.{drop, get_or, length}
 use lib.Seq.{drop-cons}
 use Rattle.fractions.proofs.Cases.{cases, or_either}
 use Rattle.fairness.specs.Figure1.{values}
-use Rattle.records.specs.Format.{Bytes, be4, body_at, link_at, path_ok, rate_ok, read_at, session_at, takes_of}
+use Rattle.records.specs.Format.{a_session, Bytes, be4, body_at, link_at, path_ok, rate_ok, read_at, session_at, takes_of}
 use Rattle.records.specs.declared.Call.TheVariants as call
-use Rattle.records.specs.declared.Read.{Read}
-use Rattle.records.specs.declared.Read.TheVariants as read
 use Rattle.records.specs.declared.Record.{Record}
 use Rattle.records.specs.declared.Record.TheVariants as rec
+use Rattle.records.specs.declared.Refusal.{Refusal}
 use Rattle.records.proofs.Somes.{clash}
 use Rattle.writing.specs.Writing.{bytes4, link_record, session_record}
 
@@ -29,11 +29,11 @@ pub record IsLink (s : List ℕ) (at : ℕ) (x : Record) : Type 0 where
 
 pub record IsSession (s : List ℕ) (at : ℕ) (x : Record) : Type 0 where
   pub kind : get_or s at 0 ≡ 2
-  pub what : x ≡ rec.Session (get_or s (at + 1) 0) (be4 s (at + 2)) (be4 s (at + 6)) (get_or s (at + 10) 0) (at + 11)
+  pub what : x ≡ a_session (get_or s (at + 1) 0) (be4 s (at + 2)) (be4 s (at + 6)) (get_or s (at + 10) 0) (at + 11)
 
-abbrev Shape : List ℕ → ℕ → Read → Type 0
-Shape s at (read.Record x) = IsLink s at x ⊎ IsSession s at x
-Shape s at (read.Refused r) = 0 ≤ 0
+abbrev Shape : List ℕ → ℕ → Result Record Refusal → Type 0
+Shape s at (Ok x) = IsLink s at x ⊎ IsSession s at x
+Shape s at (Err r) = 0 ≤ 0
 
 none : 0 ≤ 0
 none = omega arith
@@ -71,7 +71,7 @@ whole_shape s at =
     (λ t. cases (Shape s at) (leb _ (length s)) _ _ (λ f. body_shape s at t) (λ f. none))
     (λ t. none)
 
-pub read_shape : (s : List ℕ) (at : ℕ) (x : Record) → read_at call.Calculation s at ≡ read.Record x → IsLink s at x ⊎ IsSession s at x
+pub read_shape : (s : List ℕ) (at : ℕ) (x : Record) → read_at call.Calculation s at ≡ Ok x → IsLink s at x ⊎ IsSession s at x
 read_shape s at x e = subst (Shape s at) e (whole_shape s at)
 
 -- BYTES ---------------------------------------------------------------------------------------------------------------

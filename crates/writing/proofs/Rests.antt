@@ -14,7 +14,7 @@ use Rattle.sessions.specs.Set.{has, has_of}
 use Rattle.sessions.proofs.Members.{has_put_other, has_put_same, in_is, out_is}
 use Rattle.fairness.specs.Figure1.{values}
 use Rattle.fairness.proofs.Running.{values_same}
-use Rattle.records.specs.Format.{path_ok}
+use Rattle.records.specs.Format.{a_session, path_ok}
 use Rattle.records.specs.declared.Record.{Record}
 use Rattle.records.specs.declared.Record.TheVariants as rec
 use Rattle.search.specs.Crossing.{byte_at}
@@ -145,7 +145,7 @@ module _ (s : List ℕ) (z : Declared) (low at e c : ℕ) (low-e : e < 64) (rise
 
 module _ (s : List ℕ) (z : Declared) (low at t a m n : ℕ) (low-t : t < 32) (rises : low ≤ 512 + t) (o : Open z low) where
   abbrev session : Record
-  session = rec.Session t a m n (at + 11)
+  session = a_session t a m n (at + 11)
 
   pub session_open : Open (declare_of s z session) (513 + t)
   unfolding declare_of

@@ -2,6 +2,7 @@
 -- state goes on from number to number, the run comes to the end of them, and takes one record for each; and so it does where an input is of two kinds
 -- of them, one after the other.
 -- Assumes nothing.
+use Rattle.std.specs.Prelude.{Result, Ok, ⊤}
 use mathlib.Core.Bool.{Bool, cond, false, true}
 use mathlib.Core.List.{List, [], ◌∷◌, ◌++◌, append_assoc, append-nil}
 use mathlib.Core.Path.{◌≡◌, ap, refl, subst, sym, ◌∙◌}
@@ -11,10 +12,8 @@ use lib.ListN.{length, length-append}
 use Rattle.records.specs.Format.{read_at, size_at}
 use Rattle.records.specs.Run.{Ran, judged, run_from}
 use Rattle.records.specs.declared.Call.{Call}
-use Rattle.records.specs.declared.End.TheVariants as end
-use Rattle.records.specs.declared.Read.TheVariants as read
 use Rattle.records.specs.declared.Record.{Record}
-use Rattle.records.specs.declared.Verdict.{Verdict}
+use Rattle.records.specs.declared.Refusal.{Refusal}
 use Rattle.records.proofs.Runs.{run_end, run_taken}
 use Rattle.writing.specs.Writing.{records_from}
 
@@ -28,11 +27,11 @@ Skips {S = S} Inv test = (b : ℕ) (z : S) → test b ≡ false → Inv b z → 
 
 -- ONE KIND OF RECORDS -------------------------------------------------------------------------------------------------
 
-module _ {S : Type 0} (c : Call) (judge : S → Record → Verdict) (act : S → Record → S) (s : List ℕ) (Inv : ℕ → S → Type 0) where
+module _ {S : Type 0} (c : Call) (judge : S → Record → Result ⊤ Refusal) (act : S → Record → S) (s : List ℕ) (Inv : ℕ → S → Type 0) where
   -- the record of number b, of so many bytes, is taken at a place, and takes the state on
   pub record Taken (b : ℕ) (z : S) (at size : ℕ) : Type 0 where
     pub what : Record
-    pub taken : judged (read_at c s at) (judge z) ≡ read.Record what
+    pub taken : judged (read_at c s at) (judge z) ≡ Ok what
     pub long : size_at s at ≡ size
     pub some : 0 < size
     pub fits : at + size ≤ length s
@@ -125,11 +124,11 @@ module _ {S : Type 0} (c : Call) (judge : S → Record → Verdict) (act : S →
 
 -- a run that finished, with so many records taken, in a state of which Inv holds
 pub record Finishes {S : Type 0} (Inv : S → Type 0) (count : ℕ) (r : Ran S) : Type 0 where
-  pub end : r.end ≡ end.Finished
+  pub end : r.end ≡ Ok tt
   pub taken : r.taken ≡ count
   pub inv : Inv r.state
 
-module _ {S : Type 0} (c : Call) (judge : S → Record → Verdict) (act : S → Record → S) (First Second : ℕ → S → Type 0)
+module _ {S : Type 0} (c : Call) (judge : S → Record → Result ⊤ Refusal) (act : S → Record → S) (First Second : ℕ → S → Type 0)
     (m n : ℕ) (first-test second-test : ℕ → Bool) (first_of second-of : ℕ → List ℕ) where
   abbrev front : List ℕ
   front = records_from m 0 first-test first_of

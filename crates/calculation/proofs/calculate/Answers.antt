@@ -1,20 +1,22 @@
 -- `calculation::calculate` meets its contract: refusals 15 and 1, then the records, then the answer.
 -- Assumes nothing.
+use Rattle.std.specs.Prelude.{Result, ⊤}
 use mathlib.Core.Path.{◌≡◌, sym, ap, ◌∙◌, subst}
 use Prim.Native.Nat.{ℕ}
 use native.Mathlib.Omega.{arith}
 use mathlib.Core.List.{List}
-use Rattle.records.specs.declared.End.{End}
+use Rattle.std.proofs.lemmas.Result.{err_from_is_err_and}
 use Rattle.declarations.specs.Declaring.{declarations_of}
 use Rattle.declarations.specs.declared.Declarations.{Declarations}
 use Rattle.filling.specs.Lines.{Ranges}
 use Rattle.calculation.specs.Calculating.{Outcome, said_of, after_records, calculate_of, done_of, refusing}
 use Rattle.calculation.specs.declared.Calculated.{Calculated}
-use Rattle.calculation.proofs.Outcomes.{binds_of, by_records, ordered_of, ranges_of, short_first, short_second, short_third, too_long}
+use Rattle.calculation.proofs.Outcomes.{binds_of, by_records, ordered_of, ranges_of, short, too_long}
 use Rattle.calculation.proofs.calculate.Goals as goal
+use Rattle.records.specs.declared.Refused.{Refused}
 
 -- a refusal leaves the slices as they were
-told : (s n d p : List ℕ) {r : Calculated} → calculate_of s n d p ≡ refusing r n d p
+told : (s n d p : List ℕ) {r : Result Calculated Refused} → calculate_of s n d p ≡ refusing r n d p
     → (r ≡ (calculate_of s n d p).answer) × (n ≡ (calculate_of s n d p).nums) × (d ≡ (calculate_of s n d p).dens) × (p ≡ (calculate_of s n d p).places)
 told s n d p e = (
   ap (λ (o : Outcome). o.answer) (sym e),
@@ -30,27 +32,7 @@ returns-then-nums-lt-PLACES c =
     let n = a.nums.now in
     let d = a.dens.now in
     let p = a.places.now in
-    let e = short_first s n d p c.if-nums-lt-PLACES.true in
-    record { exact = told s n d p e; said = ap (λ (o : Outcome). said_of o.answer) (sym e); ordered = omega arith; binds = omega arith }
-
-pub returns-then-dens-lt-PLACES : goal.returns-then-dens-lt-PLACES
-returns-then-dens-lt-PLACES c =
-    let a = c.args in
-    let s = a.s.now in
-    let n = a.nums.now in
-    let d = a.dens.now in
-    let p = a.places.now in
-    let e = short_second s n d p c.if-nums-lt-PLACES.false c.if-dens-lt-PLACES.true in
-    record { exact = told s n d p e; said = ap (λ (o : Outcome). said_of o.answer) (sym e); ordered = omega arith; binds = omega arith }
-
-pub returns-then-places-lt-PLACES : goal.returns-then-places-lt-PLACES
-returns-then-places-lt-PLACES c =
-    let a = c.args in
-    let s = a.s.now in
-    let n = a.nums.now in
-    let d = a.dens.now in
-    let p = a.places.now in
-    let e = short_third s n d p c.if-nums-lt-PLACES.false c.if-dens-lt-PLACES.false c.if-places-lt-PLACES.true in
+    let e = short s n d p c.then-nums-lt-PLACES.either in
     record { exact = told s n d p e; said = ap (λ (o : Outcome). said_of o.answer) (sym e); ordered = omega arith; binds = omega arith }
 
 pub returns-then-s-gt-INPUT : goal.returns-then-s-gt-INPUT
@@ -71,19 +53,20 @@ answer-requires c = (
   c.if-places-lt-PLACES.false,
 )
 
-pub returns-in-Refused : goal.returns-in-Refused
-returns-in-Refused c =
+pub returns-in_err-read : goal.returns-in_err-read
+returns-in_err-read c =
     let a = c.args in
     let s = a.s.now in
     let n = a.nums.now in
     let d = a.dens.now in
     let p = a.places.now in
     let e = by_records s n d p c.if-nums-lt-PLACES.false c.if-dens-lt-PLACES.false c.if-places-lt-PLACES.false c.if-s-gt-INPUT.false
-    ∙ ap (λ (x : End). after_records x (declarations_of s).declared n d p) (sym (ap (λ (x : Declarations). x.end) c.declare_all-read.ensures.exact) ∙ c.in-Refused.is) in
-    record { exact = told s n d p e; said = ap (λ (o : Outcome). said_of o.answer) (sym e); ordered = omega arith; binds = omega arith }
+    ∙ ap (λ (x : Result ⊤ Refused). after_records x (declarations_of s).declared n d p) (sym (ap (λ (x : Declarations). x.end) c.declare_all-read.ensures.exact) ∙ c.in_err-read.was) in
+    let r = err_from_is_err_and c.from_residual.result c.from_residual.ensures.1 in
+    rw (r.1, r.2) (record { exact = told s n d p e; said = ap (λ (o : Outcome). said_of o.answer) (sym e); ordered = omega arith; binds = omega arith })
 
-pub returns-in-Finished : goal.returns-in-Finished
-returns-in-Finished c =
+pub returns : goal.returns
+returns c =
     let a = c.args in
     let s = a.s.now in
     let n = a.nums.now in
@@ -91,7 +74,7 @@ returns-in-Finished c =
     let p = a.places.now in
     let q = c.declare_all-read.ensures.exact in
     let e = by_records s n d p c.if-nums-lt-PLACES.false c.if-dens-lt-PLACES.false c.if-places-lt-PLACES.false c.if-s-gt-INPUT.false
-    ∙ ap (λ (x : End). after_records x (declarations_of s).declared n d p) (sym (ap (λ (x : Declarations). x.end) q) ∙ c.in-Finished.is) in
+    ∙ ap (λ (x : Result ⊤ Refused). after_records x (declarations_of s).declared n d p) (sym (ap (λ (x : Declarations). x.end) q) ∙ c.in_ok-read.was) in
     let o = ap (λ (x : Declarations). done_of x.declared n d p) q ∙ sym e in
     let t = c.answer.ensures in
     let x = t.0 ∙ ap (λ (z : Outcome). z.answer) o in

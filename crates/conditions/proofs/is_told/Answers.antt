@@ -6,7 +6,7 @@ use Rattle.table.specs.Values.{ToldInRange}
 use Rattle.conditions.proofs.is_told.Goals as goal
 
 pub same-requires : goal.same-requires
-same-requires c = (to_limit (subst ToldInRange c.in-Rate.is c.requires.0), to_limit c.requires.1)
+same-requires c = (to_limit (subst ToldInRange c.in-Some.is c.requires.0), to_limit c.requires.1)
 
-pub returns-in-Rate : goal.returns-in-Rate
-returns-in-Rate c = rw c.in-Rate.is c.same.ensures
+pub returns-in-Some : goal.returns-in-Some
+returns-in-Some c = rw c.in-Some.is c.same.ensures

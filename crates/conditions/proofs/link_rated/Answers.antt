@@ -2,6 +2,7 @@
 -- Assumes nothing.
 use mathlib.Core.Path.{ap, subst, sym, ◌∙◌, ◌≡◌}
 use Prim.Native.Nat.{ℕ, ◌≤◌}
+use borrow.Author.Rules.{rules}
 use borrow.Author.Tests.{eq-eqb, ne_eqb}
 use lib.Bits.{bit_or}
 use Rattle.fractions.specs.Fraction.{max_rate}
@@ -23,10 +24,10 @@ is_b : (c : After-bound_from-b) → c.bound_from-b.result ≡ B (place_of c.args
 unfolding B
 is_b c = rw (← c.sum_at-total.ensures.exact, ← c.link_at-l.ensures, ← c.size.ensures) c.bound_from-b.ensures.exact
 
-pub returns-then-held-eq0 : goal.returns-then-held-eq0
-returns-then-held-eq0 c =
+pub returns-then-l-eq0 : goal.returns-then-l-eq0
+returns-then-l-eq0 c =
     let a = c.args in
-    sym (empty_rated a.t.now a.e (ap (λ (l : Link). bit_or l.r l.f) (sym c.link_at-l.ensures) ∙ c.if-held-eq0.true))
+    sym (empty_rated a.t.now a.e (ap (λ (l : Link). bit_or l.r l.f) (sym c.link_at-l.ensures) ∙ c.if-l-eq0.true))
 
 pub bound_from-b-requires : goal.bound_from-b-requires
 bound_from-b-requires c =
@@ -42,25 +43,25 @@ bound_from-b-requires c =
 pub members_rated-requires : goal.members_rated-requires
 members_rated-requires c = (c.requires, subst BoundSized (sym (is_b c)) (b_sized (place_of c.args.t.now c.args.e) (place_workable c.args.t.now c.args.e)))
 
-pub returns-then-not-members_rated : goal.returns-then-not-members_rated
+pub returns-else-members_rated : goal.returns-else-members_rated
 unfolding link_rated
-returns-then-not-members_rated c =
+returns-else-members_rated c =
     let p = place_of c.args.t.now c.args.e in
-    let m = sym (c.members_rated.ensures ∙ ap (λ (x : Bound). members_rated x p) (is_b c.before.before)) ∙ c.if-not-members_rated.true in
-    rw m
+    let m = sym (c.members_rated.ensures ∙ ap (λ (x : Bound). members_rated x p) (is_b c.before.before)) ∙ c.if-members_rated.false in
+    rw m (search rules)
 
 pub returns-then-l-ne0 : goal.returns-then-l-ne0
 unfolding link_rated sum_rated
 returns-then-l-ne0 c =
     let p = place_of c.args.t.now c.args.e in
-    let m = sym (c.members_rated.ensures ∙ ap (λ (x : Bound). members_rated x p) (is_b c.before.before.before.before)) ∙ c.if-not-members_rated.false in
+    let m = sym (c.members_rated.ensures ∙ ap (λ (x : Bound). members_rated x p) (is_b c.before.before.before.before)) ∙ c.if-members_rated.true in
     let r = ne_eqb (R p) 0 (λ z. c.if-l-ne0.true (ap (λ (l : Link). l.r) c.link_at-l.ensures ∙ z)) in
-    rw (m, r)
+    rw (m, r) (search rules)
 
-pub returns : goal.returns
+pub returns-else-l-ne0 : goal.returns-else-l-ne0
 unfolding link_rated sum_rated
-returns c =
+returns-else-l-ne0 c =
     let p = place_of c.args.t.now c.args.e in
-    let m = sym (c.members_rated.ensures ∙ ap (λ (x : Bound). members_rated x p) (is_b c.before.before.before.before.before)) ∙ c.if-not-members_rated.false in
+    let m = sym (c.members_rated.ensures ∙ ap (λ (x : Bound). members_rated x p) (is_b c.before.before.before.before.before.before)) ∙ c.if-members_rated.true in
     let r = eq-eqb (R p) 0 (sym (ap (λ (l : Link). l.r) c.link_at-l.ensures) ∙ c.if-l-ne0.false) in
-    rw (m, r) (c.is_at_most_c.ensures ∙ ap is_at_most_c c.sum_at-total.ensures.exact)
+    rw (m, r) (c.is_ok.ensures.value ∙ ap is_at_most_c c.sum_at-total.ensures.exact)

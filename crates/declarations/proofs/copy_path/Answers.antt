@@ -1,47 +1,15 @@
 -- `declarations::copy_path` meets its contract.
 -- Assumes nothing.
-use mathlib.Core.Path.{◌≡◌, refl, ap, ◌∙◌}
-use Prim.Native.Nat.{ℕ, ◌+◌, ◌*◌}
-use lib.ListN.{get_or, set}
-use native.Mathlib.Omega.{arith}
-use mathlib.Core.List.{List}
-use native.Mathlib.Numerals.{add-one}
-use Rattle.declarations.specs.Declaring.{copied}
+use Rattle.std.proofs.Common.{rules, arith, ◌∙◌, sym, ◌+◌, ◌-◌, ◌*◌}
+use Rattle.std.specs.List.{slice_range}
+use Rattle.std.proofs.lemmas.Slice.{put_mid-paste}
+use Rattle.declarations.proofs.Copied.{copied_pasted, eight_bytes, eight_long}
 use Rattle.declarations.proofs.copy_path.Goals as goal
-
-pub overflow_mul-from : goal.overflow_mul-from
-overflow_mul-from c = omega arith
-
-pub loop-h-init : goal.loop-h-init
-unfolding copied
-loop-h-init c = (omega arith, refl)
-
-pub overflow_add-path : goal.overflow_add-path
-overflow_add-path c = omega arith
-
-pub bounds-s-at : goal.bounds-s-at
-bounds-s-at c = omega arith
-
-pub overflow_add-path-in-loop-h : goal.overflow_add-path-in-loop-h
-overflow_add-path-in-loop-h c = omega arith
-
-pub bounds-path-from : goal.bounds-path-from
-bounds-path-from c = omega arith
-
-pub overflow_step-h : goal.overflow_step-h
-overflow_step-h c = omega arith
-
-pub loop-h-smaller : goal.loop-h-smaller
-loop-h-smaller c = omega arith
-
-pub loop-h-preserved : goal.loop-h-preserved
-unfolding copied
-loop-h-preserved c = let a = c.args in
-    let h = c.loop-h.h in
-    (omega arith, rw add-one (ap (λ (l : List ℕ). set l (a.t * 8 + h) (get_or a.s.now (a.at + h) 0)) c.loop-h.invariant.1))
 
 pub returns : goal.returns
 returns c =
     let a = c.args in
-    let e : c.loop-h.h ≡ 8 = omega arith in
-    c.loop-h.invariant.1 ∙ ap (λ (k : ℕ). copied k a.path.now (a.t * 8) a.s.now a.at) e
+    let from = a.t * 8 in
+    let b = slice_range a.s.now a.at (a.at + 8) in
+    put_mid-paste from (from + 8 - from) a.path.now c.copy_from_slice.new.self b 8 c.copy_from_slice.ensures.after (omega arith) (sym (eight_long a.s.now a.at c.requires.1))
+    ∙ sym (copied_pasted 8 a.path.now from a.s.now a.at b (omega (arith, eight_long a.s.now a.at c.requires.1)) (omega arith) (eight_bytes a.s.now a.at))

@@ -3,22 +3,9 @@
 use mathlib.Core.Logic.{◌⊎◌}
 use mathlib.Core.Path.{◌≡◌}
 use native.Mathlib.Omega.{arith}
-use Rattle.fractions.proofs.Divisors.{gcd_end, gcd_swap}
-use Rattle.fractions.proofs.Twos.{part_le, or_zeros, above_zeros, above_part, below_zeros, below_part}
+use Rattle.fractions.proofs.Twos.{or_zeros, above_zeros, below_zeros}
 use Rattle.fractions.proofs.Stripping.{leads_start, leads_below, leads_above, leads_end}
 use Rattle.fractions.proofs.gcd.Goals as goal
-
-pub returns-then-a-eq0 : goal.returns-then-a-eq0
-returns-then-a-eq0 c = gcd_swap (gcd_end c.if-a-eq0.true)
-
-pub returns-then-b-eq0 : goal.returns-then-b-eq0
-returns-then-b-eq0 c = gcd_end c.if-b-eq0.true
-
-pub odd_part-x-requires : goal.odd_part-x-requires
-odd_part-x-requires c = omega arith
-
-pub odd_part-y-requires : goal.odd_part-y-requires
-odd_part-y-requires c = omega arith
 
 pub loop-x-init : goal.loop-x-init
 loop-x-init c =
@@ -26,38 +13,17 @@ loop-x-init c =
     leads_start s.args.a s.args.b c.odd_part-x.result c.odd_part-y.result s.ranges.a.fits (omega arith) s.ranges.b.fits
     c.odd_part-x.ensures c.odd_part-y.ensures
 
-pub overflow_sub-rest : goal.overflow_sub-rest
-overflow_sub-rest c = omega arith
-
-pub overflow_cast-x : goal.overflow_cast-x
-overflow_cast-x c = let z = c.loop-x in omega (arith, below_zeros z.x z.y c.if-x-y.true z.invariant.right_fits)
-
 pub overflow_shr-x : goal.overflow_shr-x
 overflow_shr-x c = let z = c.loop-x in below_zeros z.x z.y c.if-x-y.true z.invariant.right_fits
-
-pub loop-x-smaller-then-x-y : goal.loop-x-smaller-then-x-y
-loop-x-smaller-then-x-y c = let z = c.loop-x in
-    omega (arith, c.if-x-y.true, z.invariant.left, part_le (below_part z.x z.y c.if-x-y.true z.invariant.right_fits))
 
 pub loop-x-preserved-then-x-y : goal.loop-x-preserved-then-x-y
 loop-x-preserved-then-x-y c = leads_below c.loop-x.invariant c.if-x-y.true
 
-pub overflow_cast-x-else-x-y : goal.overflow_cast-x-else-x-y
-overflow_cast-x-else-x-y c = let z = c.loop-x in omega (arith, above_zeros z.x z.y (omega arith) z.invariant.left_fits)
-
 pub overflow_shr-x-else-x-y : goal.overflow_shr-x-else-x-y
 overflow_shr-x-else-x-y c = let z = c.loop-x in above_zeros z.x z.y (omega arith) z.invariant.left_fits
 
-pub loop-x-smaller : goal.loop-x-smaller
-loop-x-smaller c = let z = c.loop-x in
-    omega (arith, z.invariant.right, part_le (above_part z.x z.y (omega arith) z.invariant.left_fits))
-
 pub loop-x-preserved : goal.loop-x-preserved
 loop-x-preserved c = leads_above c.loop-x.invariant (omega arith)
-
-pub overflow_cast-result : goal.overflow_cast-result
-overflow_cast-result c = let s = c.before.before.before.before.before.before in
-    omega (arith, or_zeros s.args.a s.args.b (omega arith) s.ranges.a.fits s.ranges.b.fits)
 
 pub overflow_shl-result : goal.overflow_shl-result
 overflow_shl-result c = let s = c.before.before.before.before.before.before in

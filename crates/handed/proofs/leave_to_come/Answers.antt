@@ -1,35 +1,21 @@
--- `handed::leave_to_come` meets its contract: the first that is one settles it.
+-- `handed::leave_to_come` meets its contract.
 -- Assumes nothing.
-use mathlib.Core.Path.{ap, sym, ◌∙◌, ◌≡◌}
-use mathlib.Core.Bool.{not}
-use Prim.Native.Nat.{ℕ}
-use Rattle.handed.specs.Handed.{leave_ahead, leave_to_come}
-use native.Mathlib.Omega.{arith}
+use Rattle.std.proofs.Common.{rules, arith, ◌≤◌, ◌<◌, ap, ◌∙◌, ℕ, not}
+use Rattle.std.proofs.lemmas.Iterator.{serves_from_Range}
 use Rattle.records.specs.Format.{all}
-use Rattle.records.proofs.Alls.{all_fails, all_next, all_none}
+use Rattle.records.proofs.Chains.{any_below_n}
 use Rattle.table.proofs.InRange.{count_most}
+use Rattle.handed.specs.Handed.{leave_ahead, leave_to_come}
 use Rattle.handed.proofs.leave_to_come.Goals as goal
 
-pub loop-i-init : goal.loop-i-init
-loop-i-init c = (omega arith, omega (arith, c.count-n.ensures, count_most c.args.t.now), all_none _)
-
-pub returns-then-leave_ahead : goal.returns-then-leave_ahead
-unfolding leave_to_come
-returns-then-leave_ahead c =
-    let l = c.loop-i in
-    let a = c.args in
-    rw (← c.count-n.ensures) (sym (ap not (all_fails c.count-n.result (λ k. not (leave_ahead a.t.now a.s a.h k)) l.i c.loop-i-test.true (ap not (sym c.leave_ahead.ensures ∙ c.if-leave_ahead.true)))))
-
-pub loop-i-preserved : goal.loop-i-preserved
-loop-i-preserved c =
-    let l = c.loop-i in
-    let a = c.args in
-    (omega arith, l.invariant.1, all_next l.i (λ k. not (leave_ahead a.t.now a.s a.h k)) l.invariant.2 (ap not (sym c.leave_ahead.ensures ∙ c.if-leave_ahead.false)))
+pub any-requires-clause-callable : goal.any-requires-clause-callable
+any-requires-clause-callable c =
+    let m : c.count.result ≤ 256 = omega (arith, c.count.ensures, count_most c.args.t.now) in
+    serves_from_Range (λ x q e. search rules) (λ x a b. let k : x < 256 = omega arith in search rules)
 
 pub returns : goal.returns
 unfolding leave_to_come
 returns c =
-    let l = c.loop-i in
     let a = c.args in
-    let e : l.i ≡ c.count-n.result = omega arith in
-    rw (← c.count-n.ensures) (sym (ap not (ap (λ (m : ℕ). all m (λ k. not (leave_ahead a.t.now a.s a.h k))) (sym e) ∙ l.invariant.2)))
+    any_below_n c.count.result (leave_ahead a.t.now a.s a.h) _ _ c.any.result c.any.ensures.ran (λ x b q k. search rules)
+    ∙ ap (λ (n : ℕ). not (all n (λ i. not (leave_ahead a.t.now a.s a.h i)))) c.count.ensures

@@ -39,23 +39,23 @@ returns-then-l-eq0 c =
 pub overflow_cast-e : goal.overflow_cast-e
 overflow_cast-e c = let a = c.args in omega (arith, c.stop_at-e.ensures, stop_below a.t.now a.s c.loop-i.i)
 
-pub returns-then-has_link : goal.returns-then-has_link
+pub returns-then-has : goal.returns-then-has
 unfolding path_passes
-returns-then-has_link c =
+returns-then-has c =
     let a = c.args in
     let l = c.loop-i in
     let q = c.stop_at-e.ensures in
     rw (← c.hops_at-n.ensures)
     (sym
     (all_fails c.hops_at-n.result (λ j. stop_declared a.t.now a.s j && stop_new a.t.now a.s j) l.i c.loop-i-test.true
-    (ap (λ (x : Bool). stop_declared a.t.now a.s l.i && x) (stop_old a.t.now a.s l.i _ q l.seen l.invariant.3 (sym c.has_link.ensures ∙ c.if-has_link.true))
+    (ap (λ (x : Bool). stop_declared a.t.now a.s l.i && x) (stop_old a.t.now a.s l.i _ q l.seen l.invariant.3 (sym c.has.ensures ∙ c.if-has.true))
     ∙ and_false (stop_declared a.t.now a.s l.i))))
 
 pub overflow_cast-e-in-loop-i : goal.overflow_cast-e-in-loop-i
 overflow_cast-e-in-loop-i c = let a = c.args in omega (arith, c.stop_at-e.ensures, stop_below a.t.now a.s c.loop-i.i)
 
-pub put_link-seen-requires : goal.put_link-seen-requires
-put_link-seen-requires c = let a = c.args in omega (arith, c.stop_at-e.ensures, stop_below a.t.now a.s c.loop-i.i)
+pub put-seen-requires : goal.put-seen-requires
+put-seen-requires c = let a = c.args in omega (arith, c.stop_at-e.ensures, stop_below a.t.now a.s c.loop-i.i)
 
 pub loop-i-preserved : goal.loop-i-preserved
 loop-i-preserved c =
@@ -63,11 +63,11 @@ loop-i-preserved c =
     let l = c.loop-i in
     let q = c.stop_at-e.ensures in
     let d = declared a.t.now a.s l.i _ q _ c.link_at-l.ensures (omega (arith, c.if-l-eq0.false)) in
-    let n = stop_fresh a.t.now a.s l.i _ q l.seen l.invariant.3 (sym c.has_link.ensures ∙ c.if-has_link.false) in (
+    let n = stop_fresh a.t.now a.s l.i _ q l.seen l.invariant.3 (sym c.has.ensures ∙ c.if-has.false) in (
       omega arith,
       l.invariant.1,
       all_next l.i (λ j. stop_declared a.t.now a.s j && stop_new a.t.now a.s j) l.invariant.2 (ap₂ ◌&&◌ d n),
-      seen_next a.t.now a.s l.i _ q l.seen l.invariant.3 _ c.put_link-seen.ensures,
+      seen_next a.t.now a.s l.i _ q l.seen l.invariant.3 _ c.put-seen.ensures,
     )
 
 pub returns : goal.returns

@@ -1,30 +1,36 @@
--- `lent::rates_fit` meets its contract: the first that fails settles it.
+-- `lent::rates_fit` meets its contract: the test of all entries is the test of all 32 places.
 -- Assumes nothing.
-use Rattle.std.proofs.Common.{◌≡◌, ◌∙◌, Bool, List, ℕ, ap, arith, get_or, sym}
+use Rattle.std.proofs.Common.{rules, ◌≡◌, ◌∙◌, ◌&&◌, ◌<◌, Bool, true, List, [], ◌∷◌, ℕ, zero, suc, ap, ap₂, arith, refl, get_or, length}
+use Rattle.std.proofs.lemmas.Iterator.Search.{all_from_yields_List}
+use Rattle.std.proofs.lemmas.Iterator.{YieldsList-from_slice}
+use Rattle.std.specs.List.{list_all}
+use Rattle.fractions.proofs.Cases.{and_both, same_test}
 use Rattle.fractions.specs.Fraction.{is_rate_of}
 use Rattle.links.specs.declared.Entry.{Entry}
 use Rattle.links.specs.Links.{no_entry}
 use Rattle.records.specs.Format.{all}
-use Rattle.records.proofs.Alls.{all_fails, all_next, all_none}
+use Rattle.records.proofs.Alls.{all_at, all_below}
 use Rattle.lent.specs.Lent.{rates_fit}
 use Rattle.lent.proofs.rates_fit.Goals as goal
 
-abbrev fit : List Entry → ℕ → Bool
-fit es s = is_rate_of (get_or es s no_entry).rate
+module _ {A : Type 0} (test : A → Bool) (d : A) where
+  at_each : (xs : List A) → list_all test xs ≡ true → (i : ℕ) → i < length xs → test (get_or xs i d) ≡ true
+  at_each [] h i l = absurd (omega arith)
+  at_each (x ∷ xs) h zero l = (and_both _ _ h).0
+  at_each (x ∷ xs) h (suc i) l = at_each xs (and_both _ _ h).1 i (omega arith)
 
-pub loop-s-init : goal.loop-s-init
-loop-s-init c = all_none _
+  of_each : (xs : List A) → ((i : ℕ) → i < length xs → test (get_or xs i d) ≡ true) → list_all test xs ≡ true
+  of_each [] f = refl
+  of_each (x ∷ xs) f = ap₂ ◌&&◌ (f 0 (omega arith)) (of_each xs (λ i l. f (suc i) (omega arith)))
 
-pub returns-then-not-is_rate : goal.returns-then-not-is_rate
-unfolding rates_fit
-returns-then-not-is_rate c =
-    sym (all_fails 32 (fit c.args.entries) c.loop-s.s c.loop-s-test.true (sym c.is_rate.ensures ∙ c.if-not-is_rate.true))
-
-pub loop-s-preserved : goal.loop-s-preserved
-loop-s-preserved c = all_next c.loop-s.s (fit c.args.entries) c.loop-s.invariant (sym c.is_rate.ensures ∙ c.if-not-is_rate.false)
+  all_listed : (xs : List A) → list_all test xs ≡ all (length xs) (λ s. test (get_or xs s d))
+  all_listed xs =
+      same_test _ _ (λ h. all_below _ _ (at_each xs h)) (λ h. of_each xs (λ i l. all_at _ _ i h l))
 
 pub returns : goal.returns
 unfolding rates_fit
 returns c =
-    let e : c.loop-s.s ≡ 32 = omega arith in
-    sym (ap (λ (k : ℕ). all k (fit c.args.entries)) (sym e) ∙ c.loop-s.invariant)
+    let n : length c.args.entries ≡ 32 = omega arith in
+    all_from_yields_List (λ (x : Entry). is_rate_of x.rate) _ _ _ c.all.ensures.ran (YieldsList-from_slice c.args.entries cc) (λ x b q k. search rules)
+    ∙ all_listed (λ (x : Entry). is_rate_of x.rate) no_entry c.args.entries
+    ∙ ap (λ (k : ℕ). all k (λ s. is_rate_of (get_or c.args.entries s no_entry).rate)) n

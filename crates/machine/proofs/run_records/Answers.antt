@@ -17,7 +17,7 @@ ends : (c : After-size_at-at) → (0 < c.size_at-at.result) × (c.loop-at.at + c
 ends c = (
   c.size_at-at.ensures.1,
   rw c.size_at-at.ensures.0
-      (turn_ends c.args.s.now c.loop-at.t c.step-v.new.t c.loop-at.n c.loop-at.at c.step-v.result c.loop-at.invariant.0 c.loop-at-test.true c.step-v.ensures c.in-Taken.is),
+      (turn_ends c.args.s.now c.loop-at.t c.step-v.new.t c.loop-at.n c.loop-at.at c.step-v.result c.loop-at.invariant.0 c.loop-at-test.true c.step-v.ensures c.in-Ok.is),
 )
 
 pub loop-at-init : goal.loop-at-init
@@ -37,11 +37,11 @@ pub loop-at-preserved : goal.loop-at-preserved
 loop-at-preserved c =
     let s = c.args.s.now in
     let l = c.loop-at in
-    let next : going s (length s - (l.n + 1)) c.step-v.new.t (l.n + 1) (l.at + c.size_at-at.result) ≡ run_records_of c.args.t.now s = rw c.size_at-at.ensures.0 (sym (turn_taken c.args.s.now c.loop-at.t c.step-v.new.t c.loop-at.n c.loop-at.at c.step-v.result c.loop-at.invariant.0 c.loop-at-test.true c.step-v.ensures c.in-Taken.is) ∙ c.loop-at.invariant.2) in
+    let next : going s (length s - (l.n + 1)) c.step-v.new.t (l.n + 1) (l.at + c.size_at-at.result) ≡ run_records_of c.args.t.now s = rw c.size_at-at.ensures.0 (sym (turn_taken c.args.s.now c.loop-at.t c.step-v.new.t c.loop-at.n c.loop-at.at c.step-v.result c.loop-at.invariant.0 c.loop-at-test.true c.step-v.ensures c.in-Ok.is) ∙ c.loop-at.invariant.2) in
     (omega (arith, ends c), omega (arith, ends c), next)
 
-pub returns-in-Refused : goal.returns-in-Refused
-returns-in-Refused c = sym (turn_refused c.args.s.now c.loop-at.t c.step-v.new.t c.loop-at.n c.loop-at.at c.step-v.result c.loop-at.invariant.0 c.loop-at-test.true c.step-v.ensures _ c.in-Refused.is) ∙ c.loop-at.invariant.2
+pub returns-in-Err : goal.returns-in-Err
+returns-in-Err c = sym (turn_refused c.args.s.now c.loop-at.t c.step-v.new.t c.loop-at.n c.loop-at.at c.step-v.result c.loop-at.invariant.0 c.loop-at-test.true c.step-v.ensures _ c.in-Err.is) ∙ c.loop-at.invariant.2
 
 pub returns : goal.returns
 returns c = sym (run_end call.Machine (judging c.args.s.now) (acting c.args.s.now) c.args.s.now (length c.args.s.now - c.loop-at.n) c.loop-at.t c.loop-at.n c.loop-at.at c.loop-at-test.false) ∙ c.loop-at.invariant.2

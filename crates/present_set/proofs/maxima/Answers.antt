@@ -1,36 +1,12 @@
 -- `present_set::maxima` meets its contract.
 -- Assumes nothing.
-use mathlib.Core.Path.{ap}
-use native.Mathlib.Omega.{arith}
-use Rattle.ends.specs.declared.Source.{Source}
+use Rattle.std.proofs.Common.{rules, ◌∙◌}
+use Rattle.fractions.proofs.Arrays.{made}
 use Rattle.table.specs.Words.{source_of}
-use Rattle.present_set.proofs.Collected.{filled_all, filled_next, filled_none}
+use Rattle.present_set.proofs.Collected.{values_mapped}
 use Rattle.present_set.proofs.maxima.Goals as goal
-
-pub loop-s-init : goal.loop-s-init
-loop-s-init c = filled_none 32 (λ s. (source_of c.args.t.now s).maximum)
-
-pub source_at-z-requires : goal.source_at-z-requires
-source_at-z-requires c = c.loop-s-test.true
-
-pub offset_bounds-all-s : goal.offset_bounds-all-s
-offset_bounds-all-s c = omega (arith, c.loop-s-test.true)
-
-pub bounds-all-s : goal.bounds-all-s
-bounds-all-s c = omega (arith, c.loop-s-test.true)
-
-pub overflow_step-s : goal.overflow_step-s
-overflow_step-s c = omega (arith, c.loop-s-test.true)
-
-pub loop-s-smaller : goal.loop-s-smaller
-loop-s-smaller c = omega (arith, c.loop-s-test.true)
-
-pub loop-s-preserved : goal.loop-s-preserved
-loop-s-preserved c =
-    let z = c.loop-s in
-    filled_next 32 (λ s. (source_of c.args.t.now s).maximum) z.s z.all _ c.loop-s-test.true (ap (λ (z : Source). z.maximum) c.source_at-z.ensures) z.invariant
 
 pub returns : goal.returns
 returns c =
-    let z = c.loop-s in
-    filled_all 32 (λ s. (source_of c.args.t.now s).maximum) z.s z.all c.loop-s-test.false z.invariant
+    made (λ s. (source_of c.args.t.now s).maximum) _ c.from_fn.result 32 c.from_fn.ensures.items (λ k y q z. search rules)
+    ∙ values_mapped 0 32 (λ s. (source_of c.args.t.now s).maximum)

@@ -1,24 +1,15 @@
 -- `ranges::stops_fit` meets its contract.
 -- Assumes nothing.
-use mathlib.Core.Path.{sym, ◌∙◌}
-use native.Mathlib.Omega.{arith}
-use Rattle.ranges.proofs.Stops.{stops_on, stops_out, stops_end}
+use Rattle.std.proofs.Common.{rules, tests, arith, ◌∙◌, ℕ}
+use lib.Dec.{leb}
+use Rattle.std.proofs.lemmas.Iterator.{YieldsList-from_slice}
+use Rattle.std.proofs.lemmas.Iterator.Search.{all_from_yields_List}
+use Rattle.ranges.proofs.Stops.{path_tested}
 use Rattle.ranges.proofs.stops_fit.Goals as goal
-
-pub returns-then-t-s-gt63 : goal.returns-then-t-s-gt63
-returns-then-t-s-gt63 c =
-    let l = c.loop-i in
-    let a = c.args in
-    sym (stops_out a.t.now a.s a.n l.i c.loop-i-test.true c.if-t-s-gt63.true) ∙ l.invariant.1
-
-pub loop-i-preserved : goal.loop-i-preserved
-loop-i-preserved c =
-    let l = c.loop-i in
-    let a = c.args in
-    (omega arith, sym (stops_on a.t.now a.s a.n l.i c.loop-i-test.true c.if-t-s-gt63.false) ∙ l.invariant.1)
 
 pub returns : goal.returns
 returns c =
-    let l = c.loop-i in
     let a = c.args in
-    sym (stops_end a.t.now a.s a.n l.i c.loop-i-test.false) ∙ l.invariant.1
+    all_from_yields_List (λ (e : ℕ). leb e 63) _ _ c.all.result c.all.ensures.ran (YieldsList-from_slice _ c.iter.ensures.rest)
+    (λ x b q h. search (rules, tests))
+    ∙ path_tested a.n _ a.t.now a.s (omega arith) (omega arith)

@@ -1,82 +1,70 @@
 -- `search::first_at` meets its contract.
 -- Assumes nothing.
-use mathlib.Core.Path.{refl, sym, ap, ◌∙◌}
-use Prim.Native.Nat.{◌<◌}
+use borrow.Author.Rules.{rules}
+use mathlib.Core.Path.{◌≡◌, refl, sym, subst, ◌∙◌}
+use Prim.Native.Nat.{ℕ, ◌+◌, ◌*◌, ◌<◌, ◌≤◌}
 use native.Mathlib.Omega.{arith}
 use borrow.Author.Tests.{eqb-true}
+use lib.ListN.{length}
+use Rattle.std.specs.Prelude.{Option}
 use Rattle.sessions.specs.Set.{has}
-use Rattle.sessions.proofs.Members.{has_cut_le}
-use Rattle.sessions.proofs.Walks.{next_below, next_less}
-use Rattle.search.proofs.Turns.{first_hit, first_none, none_of_more, tried_more}
-use Rattle.search.proofs.first_at.Goals.{After-cut-rest, After-next-s}
+use Rattle.sessions.proofs.Remaining.{comes_first, remains_all, remains_next, remains_none}
+use Rattle.search.specs.Crossing.{FirstAt}
+use Rattle.search.proofs.Paths.{path_byte, path_length}
+use Rattle.search.proofs.Turns.{first_hit, first_none, none_of_all, none_of_more, tried_more}
 use Rattle.search.proofs.first_at.Goals as goal
 
--- the next session, and that less is left without it
-small : (c : After-next-s) → c.next-s.result < 32
-small c = let z = c.search in next_below 32 z.rest c.next-s.result (omega arith) z.invariant.0 c.next-s.ensures
-
-less : (c : After-cut-rest) → c.cut-rest.result < c.search.rest
-less c =
-    let z = c.search in
-    let n = c.next-s in
-    next_less 32 z.rest n.result (omega arith) z.invariant.0 n.ensures c.cut-rest.result c.cut-rest.ensures
-
 pub search-init : goal.search-init
-search-init c = (omega arith, refl, λ s h. omega arith, λ s h p q. absurd (omega arith))
-
-pub overflow_cast-from : goal.overflow_cast-from
-overflow_cast-from c = omega (arith, small c)
-
-pub overflow_mul-from : goal.overflow_mul-from
-overflow_mul-from c = omega (arith, small c)
-
-pub loop-h-init : goal.loop-h-init
-loop-h-init c = (omega arith, c.search.invariant.1, refl, λ i l. absurd (omega arith))
-
-pub overflow_add-from : goal.overflow_add-from
-overflow_add-from c = omega (arith, small c.before.before)
-
-pub bounds-path-from : goal.bounds-path-from
-bounds-path-from c = omega (arith, next_below 32 c.search.rest c.next-s.result (omega arith) c.search.invariant.0 c.next-s.ensures)
-
-pub loop-h-preserved : goal.loop-h-preserved
-loop-h-preserved c =
+search-init c =
     let a = c.args in
-    let z = c.loop-h in
-    let miss = sym c.in_links.ensures ∙ c.if-in_links.false in
-    (omega arith, z.invariant.1, refl, none_of_more a.path.now a.links c.next-s.result z.h miss z.invariant.3)
+    let start : c.into_iter-s-iterator.result.left ≡ a.left = search rules in
+    rw start (tt, tt, refl, remains_all 32 a.left (omega arith), λ s h p q. absurd (omega arith))
 
-pub cut-rest-requires : goal.cut-rest-requires
-cut-rest-requires c = small c.before.before
+pub loop-e-init : goal.loop-e-init
+loop-e-init c = (c.search.invariant.2, λ h k. absurd (omega arith))
 
-pub search-smaller : goal.search-smaller
-search-smaller c = less c
+pub loop-e-preserved : goal.loop-e-preserved
+loop-e-preserved c =
+    let a = c.args in
+    let z = c.loop-e in
+    let s = c.in-Some.s in
+    let fits : s * 8 + 8 ≤ length a.path.now = omega (arith, c.in-Some.ensures.steps.1) in
+    let h : z.e-index < 8 = omega (arith, path_length a.path.now s fits, c.loop-e-test.true) in
+    (z.invariant.0, none_of_more a.path.now a.links s z.e-index _ (c.from.ensures ∙ path_byte a.path.now s z.e-index h) (sym c.has.ensures ∙ c.if-has.false) z.invariant.1)
 
 pub search-preserved : goal.search-preserved
 search-preserved c =
     let a = c.args in
     let z = c.search in
-    let s = c.next-s.result in
-    let y = c.loop-h in
-    let v = c.cut-rest in (
-      omega (arith, less c),
-      omega (arith, y.invariant.1),
-      λ t h. omega (arith, ap (has t) v.ensures, has_cut_le t s z.rest, z.invariant.2 t h),
-      tried_more a.path.now a.links a.left z.rest s v.result y.h v.ensures (omega arith) y.invariant.3 z.invariant.3,
+    let s = c.in-Some.s in
+    let v = c.next.new.self.left in
+    let n = c.in-Some.ensures.steps in
+    let fits : s * 8 + 8 ≤ length a.path.now = omega (arith, n.1) in
+    let all : 8 ≤ c.loop-e.e-index = omega (arith, path_length a.path.now s fits, c.loop-e-test.false) in (
+      tt,
+      tt,
+      c.loop-e.invariant.0,
+      remains_next 32 a.left z.s-iterator.left z.invariant.3 s v n.3,
+      tried_more a.path.now a.links a.left z.s-iterator.left s v n.3 (none_of_all a.path.now a.links s c.loop-e.e-index all c.loop-e.invariant.1) z.invariant.4,
     )
 
-pub returns-after-search : goal.returns-after-search
-returns-after-search c =
+pub returns-then-has : goal.returns-then-has
+returns-then-has c =
     let a = c.args in
     let z = c.search in
-    first_none a.path.now a.links a.left z.rest z.found z.invariant.1 (omega arith) z.invariant.3
+    let s = c.in-Some.s in
+    let rest = z.s-iterator.left in
+    let n = c.in-Some.ensures.steps in
+    let k = c.loop-e.e-index in
+    let fits : s * 8 + 8 ≤ length a.path.now = omega (arith, n.1) in
+    let h : k < 8 = omega (arith, path_length a.path.now s fits, c.loop-e-test.true) in
+    let hit = eqb-true _ _ (sym c.has.ensures ∙ c.if-has.true) in
+    first_hit a.path.now a.links a.left rest s z.invariant.3 n.2 (comes_first 32 rest s c.next.new.self.left z.invariant.3.word n)
+    (k, h, subst (λ (v : ℕ). has v a.links ≡ 1) (c.from.ensures ∙ path_byte a.path.now s k h) hit) z.invariant.4
 
-pub returns-then-in_links : goal.returns-then-in_links
-returns-then-in_links c =
+pub returns-in-None : goal.returns-in-None
+returns-in-None c =
     let a = c.args in
     let z = c.search in
-    let n = c.next-s in
-    let hit = eqb-true _ _ (sym c.in_links.ensures ∙ c.if-in_links.true) in
-    let h = c.loop-h.h in
-    first_hit a.path.now a.links a.left z.rest n.result h (omega arith) z.invariant.0 n.ensures z.invariant.2
-    c.loop-h-test.true hit z.invariant.3
+    let none = remains_none 32 a.left z.s-iterator.left z.invariant.3 c.in-None.ensures.steps.0 in
+    subst (λ (r : Option ℕ). FirstAt a.path.now a.left a.links r) (sym z.invariant.2) (first_none a.path.now a.links a.left z.s-iterator.left none z.invariant.4)

@@ -2,5 +2,5 @@
 -- Assumes nothing.
 use Rattle.sending.proofs.send_on.Goals as goal
 
-pub returns-in-Send : goal.returns-in-Send
-returns-in-Send c = rw (c.in-Send.is, ← c.sent_from-p.ensures) c.append.ensures
+pub returns-in-Some : goal.returns-in-Some
+returns-in-Some c = rw (c.in-Some.is, ← c.sent_from-p.ensures) c.append.ensures

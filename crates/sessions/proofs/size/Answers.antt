@@ -1,8 +1,9 @@
 -- `sessions::size` meets its contract.
 -- Assumes nothing.
-use native.Mathlib.Omega.{arith}
+use mathlib.Core.Path.{ap, ◌∙◌}
+use lib.Count.{ones_in}
 use Rattle.sessions.proofs.Counts.{ones_in_lem}
 use Rattle.sessions.proofs.size.Goals as goal
 
 pub returns : goal.returns
-returns c = ones_in_lem 32 c.args.w (omega arith)
+returns g c = ones_in_lem g.W.Word.WIDTH c.bits.result c.bits.ensures.within ∙ ap (ones_in g.W.Word.WIDTH) c.bits.ensures.same

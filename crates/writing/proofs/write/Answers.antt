@@ -1,5 +1,6 @@
 -- `writing::write` meets its contract.
 -- Assumes nothing.
+use Rattle.std.specs.Prelude.{Ok}
 use mathlib.Core.List.{List}
 use mathlib.Core.Path.{ap, ap₂, sym, ◌∙◌}
 use Prim.Native.Nat.{ℕ, ◌≤◌}
@@ -7,7 +8,6 @@ use native.Mathlib.Omega.{arith}
 use lib.ListN.{length}
 use lib.Seq.{length-sets, sets}
 use Rattle.sessions.proofs.Counts.{count_most}
-use Rattle.writing.specs.declared.Wrote.TheVariants as wrote
 use Rattle.writing.specs.Writing.{link_records, records_of, session_records}
 use Rattle.writing.specs.Written.{Written}
 use Rattle.writing.proofs.Lengths.{links_long, output_long, sessions_long}
@@ -18,14 +18,14 @@ pub returns-then-out-link_bytes : goal.returns-then-out-link_bytes
 returns-then-out-link_bytes c =
     let a = c.args in
     let short =
-    too_short a.d a.out.now (omega (arith, c.if-out-link_bytes.true, c.size-sessions.ensures, c.size_links-links.ensures, output_long a.d)) in
+    too_short a.d a.out.now (omega (arith, c.if-out-link_bytes.true, c.size-sessions.ensures, c.size-links.ensures, output_long a.d)) in
     (ap (λ (o : Written). o.answer) (sym short), ap (λ (o : Written). o.bytes) (sym short))
 
 pub put_links-requires : goal.put_links-requires
 put_links-requires c =
     let a = c.args in (
       omega arith,
-      omega (arith, c.if-out-link_bytes.false, c.size_links-links.ensures, links_long a.d.links a.d.capacity),
+      omega (arith, c.if-out-link_bytes.false, c.size-links.ensures, links_long a.d.links a.d.capacity),
       c.requires.0,
     )
 
@@ -33,7 +33,7 @@ pub put_sessions-requires : goal.put_sessions-requires
 put_sessions-requires c =
     let a = c.args in
     let p = c.requires in
-    let links = c.size_links-links.ensures in (
+    let links = c.size-links.ensures in (
       omega (arith, links, count_most 64 a.d.links),
       omega (
         arith,
@@ -51,11 +51,11 @@ put_sessions-requires c =
 pub returns : goal.returns
 returns c =
     let a = c.args in
-    let links = c.size_links-links.ensures in
+    let links = c.size-links.ensures in
     let sessions = c.size-sessions.ensures in
     let fits : length (records_of a.d) ≤ length a.out.now = omega (arith, c.if-out-link_bytes.false, links, sessions, output_long a.d) in
     let whole = enough a.d a.out.now fits in (
-      ap wrote.Bytes (omega (arith, links, sessions, output_long a.d)) ∙ ap (λ (o : Written). o.answer) (sym whole),
+      ap Ok (omega (arith, links, sessions, output_long a.d)) ∙ ap (λ (o : Written). o.answer) (sym whole),
       c.put_sessions.ensures
           ∙ ap₂ (λ (l : List ℕ) (k : ℕ). sets l k (session_records a.d.sessions a.d.access a.d.maximum a.d.path))
           c.put_links.ensures

@@ -1,12 +1,9 @@
 -- `fractions::Rate::share` meets its contract.
 -- Assumes nothing.
-use mathlib.Core.Path.{◌≡◌, ap, sym, subst, ◌∙◌}
-use native.Mathlib.Nat.{mul-pos}
-use native.Mathlib.Omega.{arith}
-use Prim.Native.Nat.{◌-◌, ◌*◌, ◌≤◌, ◌<◌}
-use Rattle.fractions.specs.Fraction.{among_of, each_of, fine_of, left_of, lowest_of, max_den, share_of, share_said}
+use mathlib.Core.Path.{◌≡◌, ap, ◌∙◌}
+use Prim.Native.Nat.{◌-◌, ◌*◌}
+use Rattle.fractions.specs.Fraction.{among_of, answer_said, each_of, left_of, lowest_of, share_of, within_limit}
 use Rattle.fractions.specs.declared.Part.{Part}
-use Rattle.fractions.specs.declared.Share.TheVariants as share
 use Rattle.fractions.proofs.Cases.{said_too}
 use Rattle.fractions.proofs.Rate.share.Goals.{After-among-each, After-lowest-share}
 use Rattle.fractions.proofs.Rate.share.Goals as goal
@@ -22,18 +19,6 @@ each : (c : After-lowest-share)
     (c.args.taken.den * c.args.count)
 each c = c.lowest-share.ensures ∙ ap (λ (p : Part). lowest_of p.num p.den) (part c.before)
 
-pub among-each-requires : goal.among-each-requires
-among-each-requires c = let e = c.left.ensures in (subst (λ (p : Part). p.den ≤ max_den) (sym e) (omega arith), c.requires.4)
-
-pub lowest-share-requires : goal.lowest-share-requires
-lowest-share-requires c = subst (λ (p : Part). 0 < p.den) (sym (part c)) (mul-pos c.requires.0.pos c.requires.3)
-
-pub returns-then-is_fine : goal.returns-then-is_fine
+pub returns : goal.returns
 unfolding share_of each_of
-returns-then-is_fine c = let e = each c.before.before in
-    said_too share_said (rw (sym (ap fine_of e) ∙ (sym c.is_fine.ensures ∙ c.if-is_fine.true)) (ap share.Rate e))
-
-pub returns-else-is_fine : goal.returns-else-is_fine
-unfolding share_of each_of
-returns-else-is_fine c = let e = each c.before.before in
-    said_too share_said (rw (sym (ap fine_of e) ∙ (sym c.is_fine.ensures ∙ c.if-is_fine.false)))
+returns c = said_too answer_said (c.within_limit.ensures ∙ ap within_limit (each c.before))

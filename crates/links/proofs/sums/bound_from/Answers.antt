@@ -1,25 +1,25 @@
 -- `links::bound_from` meets its contract, whatever F comes to.
 -- Assumes nothing.
-use mathlib.Core.Path.{ap, refl, sym, ◌∙◌}
+use Rattle.std.proofs.Common.{rules}
+use Rattle.links.specs.declared.NoTotal.TheVariants as no_total
+use mathlib.Core.Path.{◌≡◌, ap, refl, sym, ◌∙◌}
 use native.Mathlib.Omega.{arith}
 use Rattle.fractions.proofs.Cases.{said_too}
 use Rattle.links.specs.Links.{as_bound, bound_of, bound_said}
 use Rattle.links.proofs.Bounds.{bound_none, bound_past, bound_past_none, bound_some}
-use Rattle.links.specs.declared.Bound.TheVariants as bound
+use Rattle.links.proofs.sums.bound_from.Goals.{in_default-via-in-Err+in-PastC, in_default-via-in-Ok}
 use Rattle.links.proofs.sums.bound_from.Goals as goal
 
-pub returns-then-count-eq0 : goal.returns-then-count-eq0
-returns-then-count-eq0 c = said_too bound_said (rw c.in-Rate.is (sym (bound_none _ _ _ c.if-count-eq0.true)))
+pub returns-in_default : goal.returns-in_default
+returns-in_default c =
+    elim c.in_default.branch [ in_default-via-in-Err+in-PastC w ↦ said_too bound_said (rw w.in_default.is (let e : w.in_default.field-0 ≡ no_total.PastC = search rules in rw e (sym (bound_past_none _ _ c.if-count-eq0.true)))) | in_default-via-in-Ok w ↦ said_too bound_said (rw w.in_default.is (sym (bound_none _ _ _ c.if-count-eq0.true))) ]
 
-pub returns-else-count-eq0 : goal.returns-else-count-eq0
-returns-else-count-eq0 c = said_too bound_said (rw c.in-Rate.is (c.as_bound.ensures ∙ (ap as_bound c.share-share.ensures.exact ∙ sym (bound_some _ _ _ (omega arith)))))
+pub returns-in-Err-PastC : goal.returns-in-Err-PastC
+returns-in-Err-PastC c = said_too bound_said (rw c.in-Err-PastC.is (let e : c.in-Err-PastC.field-0 ≡ no_total.PastC = search rules in rw e (sym (bound_past _ _ (omega arith)))))
 
-pub returns-in-TooFine : goal.returns-in-TooFine
+pub returns-in-Ok : goal.returns-in-Ok
+returns-in-Ok c = said_too bound_said (rw c.in-Ok.is (c.from.ensures ∙ (ap as_bound c.share.ensures.exact ∙ sym (bound_some _ _ _ (omega arith)))))
+
+pub returns-in-Err-TooFine : goal.returns-in-Err-TooFine
 unfolding bound_of
-returns-in-TooFine c = rw c.in-TooFine.is (record { exact = refl; said = refl })
-
-pub returns-then-count-eq0-2 : goal.returns-then-count-eq0-2
-returns-then-count-eq0-2 c = said_too bound_said (rw c.in-PastC.is (sym (bound_past_none _ _ c.if-count-eq0-2.true)))
-
-pub returns-else-count-eq0-2 : goal.returns-else-count-eq0-2
-returns-else-count-eq0-2 c = said_too bound_said (rw c.in-PastC.is (ap bound.At c.zero.ensures ∙ sym (bound_past _ _ (omega arith))))
+returns-in-Err-TooFine c = said_too bound_said (rw c.in-Err-TooFine.is (let e : c.in-Err-TooFine.field-0 ≡ no_total.TooFine = search rules in rw e refl))

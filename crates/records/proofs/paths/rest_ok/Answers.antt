@@ -1,47 +1,20 @@
 -- `records::paths::rest_ok` meets its contract.
 -- Assumes nothing.
-use mathlib.Core.Path.{◌≡◌, sym, ap, ◌∙◌}
-use mathlib.Core.Bool.{◌||◌}
-use Prim.Native.Nat.{◌+◌}
-use lib.ListN.{get_or}
-use lib.Dec.{eqb, ltb}
-use native.Mathlib.Omega.{arith}
-use borrow.Author.Tests.{eq-eqb, ne_eqb, lt-ltb, le-ltb}
-use Rattle.records.specs.Format.{all, rest_ok}
-use Rattle.records.proofs.Alls.{all_next, all_fails, all_below}
+use Rattle.std.proofs.Common.{rules, tests, arith, get_or, ap, sym, ◌≡◌, ◌∙◌, ◌+◌, ◌-◌, ℕ, eqb}
+use Rattle.std.proofs.lemmas.Iterator.{YieldsList-from_slice}
+use Rattle.std.proofs.lemmas.Iterator.Search.{all_from_yields_List}
+use Rattle.records.specs.Format.{rest_ok}
+use Rattle.records.proofs.Chains.{all_of_part}
+use Rattle.records.proofs.Alls.{all_behind, all_eq}
 use Rattle.records.proofs.paths.rest_ok.Goals as goal
-
-pub loop-h-init : goal.loop-h-init
-loop-h-init c =
-    let a = c.args in
-    (omega arith, omega arith, all_below a.n (λ i. ltb i a.n || eqb (get_or a.s.now (a.at + i) 0) 255) (λ i l. rw (lt-ltb i a.n l)))
-
-pub overflow_add-at : goal.overflow_add-at
-overflow_add-at c = omega arith
-
-pub bounds-s-at : goal.bounds-s-at
-bounds-s-at c = omega arith
-
-pub returns-then-s-at : goal.returns-then-s-at
-unfolding rest_ok
-returns-then-s-at c = let a = c.args in
-    let h = c.loop-h.h in
-    sym (all_fails 8 (λ i. ltb i a.n || eqb (get_or a.s.now (a.at + i) 0) 255) h c.loop-h-test.true (rw (le-ltb h a.n c.loop-h.invariant.0) (ne_eqb _ _ c.if-s-at.true)))
-
-pub overflow_step-h : goal.overflow_step-h
-overflow_step-h c = omega arith
-
-pub loop-h-smaller : goal.loop-h-smaller
-loop-h-smaller c = omega arith
-
-pub loop-h-preserved : goal.loop-h-preserved
-loop-h-preserved c =
-    let a = c.args in
-    let h = c.loop-h.h in
-    (omega arith, omega arith, all_next h (λ i. ltb i a.n || eqb (get_or a.s.now (a.at + i) 0) 255) c.loop-h.invariant.2 (rw (le-ltb h a.n c.loop-h.invariant.0) (eq-eqb _ _ c.if-s-at.false)))
 
 pub returns : goal.returns
 unfolding rest_ok
-returns c = let a = c.args in
-    let e : c.loop-h.h ≡ 8 = omega arith in
-    sym (ap (λ k. all k (λ i. ltb i a.n || eqb (get_or a.s.now (a.at + i) 0) 255)) (sym e) ∙ c.loop-h.invariant.2)
+returns c =
+    let a = c.args in
+    all_from_yields_List (λ (e : ℕ). eqb e 255) _ _ c.all.result c.all.ensures.ran (YieldsList-from_slice _ c.iter.ensures.rest)
+    (λ x b q k. search (rules, tests))
+    ∙ all_of_part a.s.now (λ (e : ℕ). eqb e 255) (8 - a.n) _ (a.at + a.n) (omega arith) (omega arith)
+    ∙ all_eq (8 - a.n) (λ k. eqb (get_or a.s.now (a.at + a.n + k) 0) 255) (λ k. eqb (get_or a.s.now (a.at + (a.n + k)) 0) 255)
+    (λ k l. let e : a.at + a.n + k ≡ a.at + (a.n + k) = omega arith in ap (λ (i : ℕ). eqb (get_or a.s.now i 0) 255) e)
+    ∙ sym (all_behind 8 a.n (λ h. eqb (get_or a.s.now (a.at + h) 0) 255) (omega arith))

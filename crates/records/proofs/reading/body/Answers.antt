@@ -1,30 +1,15 @@
 -- `records::reading::body` meets its contract.
 -- Assumes nothing.
-use mathlib.Core.Path.{sym, ap}
+use Rattle.std.proofs.Common.{◌≡◌, ◌∙◌, ap, Option, ℕ}
+use Rattle.std.specs.Option.{unwrap_or}
 use native.Mathlib.Omega.{arith}
-use Rattle.records.proofs.Bodies.{body_none}
 use Rattle.records.specs.Format.{body_of}
+use Rattle.records.proofs.Bodies.{body_most}
 use Rattle.records.proofs.reading.body.Goals as goal
 
-pub returns-in-1 : goal.returns-in-1
+pub returns : goal.returns
 unfolding body_of
-returns-in-1 c = (sym (ap body_of c.in-1.is), omega arith)
-
-pub returns-in-2 : goal.returns-in-2
-unfolding body_of
-returns-in-2 c = (sym (ap body_of c.in-2.is), omega arith)
-
-pub returns-in-3 : goal.returns-in-3
-unfolding body_of
-returns-in-3 c = (sym (ap body_of c.in-3.is), omega arith)
-
-pub returns-in-4 : goal.returns-in-4
-unfolding body_of
-returns-in-4 c = (sym (ap body_of c.in-4.is), omega arith)
-
-pub returns-in-5 : goal.returns-in-5
-unfolding body_of
-returns-in-5 c = (sym (ap body_of c.in-5.is), omega arith)
-
-pub returns-in_default : goal.returns-in_default
-returns-in_default c = (sym (body_none _ (λ q. omega arith) (λ q. omega arith) (λ q. omega arith) (λ q. omega arith) (λ q. omega arith)), omega arith)
+returns c =
+    let e : c.unwrap_or.result ≡ body_of c.args.kind =
+    c.unwrap_or.ensures ∙ ap (λ (o : Option ℕ). unwrap_or o 0) c.copied.ensures ∙ c.get.ensures.lookup.4 (omega arith) 0 ∙ ap body_of c.from.ensures in
+    (e, omega (arith, e, body_most c.args.kind))

@@ -14,4 +14,4 @@ returns-then-maximum-gt-RATE c = simp (← c.number4-maximum.ensures, lt-ltb _ _
 
 pub returns : goal.returns
 unfolding change_at
-returns c = simp (← c.number4-maximum.ensures, lt-ltb _ _ c.if-session-ge-SESSIONS.false, le-leb _ _ c.if-maximum-gt-RATE.false)
+returns c = simp (c.from.ensures, ← c.number4-maximum.ensures, lt-ltb _ _ c.if-session-ge-SESSIONS.false, le-leb _ _ c.if-maximum-gt-RATE.false)

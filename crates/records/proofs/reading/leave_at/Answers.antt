@@ -10,4 +10,4 @@ returns-then-session-ge-SESSIONS c = simp (le-ltb _ _ c.if-session-ge-SESSIONS.t
 
 pub returns : goal.returns
 unfolding leave_at
-returns c = simp (lt-ltb _ _ c.if-session-ge-SESSIONS.false)
+returns c = simp (c.from.ensures, lt-ltb _ _ c.if-session-ge-SESSIONS.false)

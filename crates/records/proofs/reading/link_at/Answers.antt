@@ -18,4 +18,4 @@ returns-then-not-rate_ok c = let e = sym c.rate_ok.ensures ∙ not_true _ c.if-n
 pub returns : goal.returns
 unfolding link_at
 returns c = let e = sym c.rate_ok.ensures ∙ not-false _ c.if-not-rate_ok.false-raw in
-    simp (← c.number4-capacity.ensures, lt-ltb _ _ c.if-link-ge-LINKS.false, e)
+    simp (c.from.ensures, ← c.number4-capacity.ensures, lt-ltb _ _ c.if-link-ge-LINKS.false, e)

@@ -6,4 +6,4 @@ use Rattle.records.proofs.reading.number2.Goals as goal
 
 pub returns : goal.returns
 unfolding be2
-returns c = ((cc), omega (arith, c.wide-b.ensures, c.wide-a.ensures))
+returns c = omega (arith, c.from_be_bytes.ensures)

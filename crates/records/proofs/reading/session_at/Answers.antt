@@ -24,13 +24,13 @@ returns-then-maximum-gt-RATE c = let e = sym c.rate_ok.ensures ∙ not-false _ c
 pub returns-then-not-path_ok : goal.returns-then-not-path_ok
 unfolding session_at
 returns-then-not-path_ok c = let a = c.args in
-    let p = sym (c.path_ok.ensures ∙ ap (path_ok a.s.now (a.at + 11)) c.wide-size.ensures.0) ∙ not_true _ c.if-not-path_ok.true-raw in
+    let p = sym (c.path_ok.ensures ∙ ap (path_ok a.s.now (a.at + 11)) c.from-size.ensures) ∙ not_true _ c.if-not-path_ok.true-raw in
     let e = sym c.rate_ok.ensures ∙ not-false _ c.if-not-rate_ok.false-raw in
     simp (← c.number4-access.ensures, ← c.number4-maximum.ensures, lt-ltb _ _ c.if-session-ge-SESSIONS.false, e, le-leb _ _ c.if-maximum-gt-RATE.false, p)
 
 pub returns : goal.returns
 unfolding session_at
 returns c = let a = c.args in
-    let p = sym (c.path_ok.ensures ∙ ap (path_ok a.s.now (a.at + 11)) c.wide-size.ensures.0) ∙ not-false _ c.if-not-path_ok.false-raw in
+    let p = sym (c.path_ok.ensures ∙ ap (path_ok a.s.now (a.at + 11)) c.from-size.ensures) ∙ not-false _ c.if-not-path_ok.false-raw in
     let e = sym c.rate_ok.ensures ∙ not-false _ c.if-not-rate_ok.false-raw in
-    simp (← c.number4-access.ensures, ← c.number4-maximum.ensures, lt-ltb _ _ c.if-session-ge-SESSIONS.false, e, le-leb _ _ c.if-maximum-gt-RATE.false, p, c.wide-size.ensures.0)
+    simp (c.from.ensures, ← c.number4-access.ensures, ← c.number4-maximum.ensures, lt-ltb _ _ c.if-session-ge-SESSIONS.false, e, le-leb _ _ c.if-maximum-gt-RATE.false, p, c.from-size.ensures)

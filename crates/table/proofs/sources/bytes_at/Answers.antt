@@ -1,8 +1,11 @@
 -- `table::bytes_at` meets its contract.
 -- Assumes nothing.
+use Rattle.std.proofs.Common.{rules, add-zero, ◌∙◌, ◌+◌}
+use lib.ListN.{get_or}
+use Rattle.fractions.proofs.Arrays.{made}
 use Rattle.table.specs.Words.{block_at}
 use Rattle.table.proofs.sources.bytes_at.Goals as goal
 
 pub returns : goal.returns
 unfolding block_at
-returns c = rw (c.wide.ensures, c.wide-2.ensures, c.wide-3.ensures, c.wide-4.ensures, c.wide-5.ensures, c.wide-6.ensures, c.wide-7.ensures, c.wide-8.ensures)
+returns c = made (λ i. get_or c.args.input.now (c.args.at + i) 0) _ c.from_fn.result 8 c.from_fn.ensures.items (λ k y q z. search rules) ∙ simp add-zero

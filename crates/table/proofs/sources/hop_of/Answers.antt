@@ -1,38 +1,43 @@
 -- `table::hop_of` meets its contract.
 -- Assumes nothing.
-use mathlib.Core.Path.{◌≡◌, ap, refl, sym, ◌∙◌}
-use Prim.Native.Nat.{ℕ, ◌-◌}
-use native.Mathlib.Omega.{arith}
-use Rattle.table.specs.Words.{hop_from, path_of, stops_from}
-use Rattle.table.proofs.Loops.{hop_on, hop_found, hop_none}
+use Rattle.std.proofs.Common.{rules, arith, ◌≡◌, ◌≤◌, ◌<◌, ℕ, sym, ◌∙◌, ap, refl, Bool, tests}
+use lib.Dec.{eqb}
+use Rattle.std.specs.List.{position_from, range_with_len}
+use Rattle.std.proofs.lemmas.Iterator.{serves_from_Range, YieldsList-from_range}
+use Rattle.std.proofs.lemmas.Iterator.Adapters.{position_from-zero}
+use Rattle.std.proofs.lemmas.Iterator.Search.{position_from_yields_List}
+use Rattle.table.specs.Words.{hop_of, stop_of}
+use Rattle.table.proofs.Loops.{hop_found, hop_given}
 use Rattle.table.proofs.InRange.{hops_most}
+use Rattle.table.proofs.sources.hop_of.Goals.{After-position}
 use Rattle.table.proofs.sources.hop_of.Goals as goal
 
-pub loop-i-init : goal.loop-i-init
-loop-i-init c = (
-  omega arith,
-  omega (arith, c.hops_at-n.ensures, hops_most c.args.t.now c.args.s),
-  refl,
-  let p : c.hops_at-n.result - 0 ≡ c.hops_at-n.result = omega arith in
-      ap (λ (k : ℕ). hop_from 1 (stops_from k c.args.t.now c.args.s 0) c.args.e) p,
-)
-
-pub returns-then-stop-e : goal.returns-then-stop-e
-unfolding path_of
-returns-then-stop-e c =
-    let l = c.loop-i in
+-- what was found is the hop
+found : (c : After-position) → hop_of c.args.t.now c.args.s c.args.e ≡ hop_given c.position.result
+found c =
     let a = c.args in
-    rw (← c.hops_at-n.ensures) (sym (hop_found a.t.now a.s c.hops_at-n.result l.hop l.i a.e c.loop-i-test.true (sym c.stop_at-stop.ensures ∙ c.if-stop-e.true)) ∙ l.invariant.3)
+    let w = a.t.now in
+    let test : ℕ → Bool = λ i. eqb (stop_of w a.s i) a.e in
+    let n = c.hops_at.result in
+    let p : c.position.result ≡ position_from test 0 (range_with_len 0 n) =
+    position_from_yields_List test _ _ c.position.result c.position.ensures.ran (YieldsList-from_range 0 n n refl (omega arith)) (λ x b q k. search (rules, tests)) ∙ position_from-zero test (range_with_len 0 n) in
+    hop_found w a.s a.e c.position.result (p ∙ ap (λ (k : ℕ). position_from test 0 (range_with_len 0 k)) c.hops_at.ensures)
 
-pub loop-i-preserved : goal.loop-i-preserved
-loop-i-preserved c =
-    let l = c.loop-i in
-    let a = c.args in
-    (omega arith, l.invariant.1, omega arith, sym (hop_on a.t.now a.s c.hops_at-n.result l.hop l.i a.e c.loop-i-test.true (λ q. c.if-stop-e.false (c.stop_at-stop.ensures ∙ q))) ∙ l.invariant.3)
+pub position-requires-clause-callable : goal.position-requires-clause-callable
+position-requires-clause-callable c =
+    let m : c.hops_at.result ≤ 8 = omega (arith, c.hops_at.ensures, hops_most c.args.t.now c.args.s) in
+    serves_from_Range (λ x q e. search rules) (λ x a b. let k : x < 8 = omega arith in search rules)
+
+pub returns-in_err-i : goal.returns-in_err-i
+returns-in_err-i c =
+    let n : hop_of c.args.t.now c.args.s c.args.e ≡ 0 = found c.before.before.before ∙ ap hop_given c.in_err-i.was in
+    search rules
+
+pub overflow_cast-result : goal.overflow_cast-result
+overflow_cast-result c = omega (arith, c.in_ok-i.ensures.bound, c.hops_at.ensures, hops_most c.args.t.now c.args.s)
+
+pub overflow_add-result : goal.overflow_add-result
+overflow_add-result c = omega (arith, c.in_ok-i.ensures.bound, c.hops_at.ensures, hops_most c.args.t.now c.args.s)
 
 pub returns : goal.returns
-unfolding path_of
-returns c =
-    let l = c.loop-i in
-    let a = c.args in
-    rw (← c.hops_at-n.ensures) (sym (hop_none a.t.now a.s c.hops_at-n.result l.hop l.i a.e c.loop-i-test.false) ∙ l.invariant.3)
+returns c = (omega arith, sym (found c.before.before ∙ ap hop_given c.in_ok-i.was))

@@ -1,2 +1,0 @@
--- Laws of sending. A crate above cites them as Rattle.sending.proofs.NAME.
-mod Turns

@@ -1,8 +1,0 @@
--- `sessions::size_links` meets its contract.
--- Assumes nothing.
-use native.Mathlib.Omega.{arith}
-use Rattle.sessions.proofs.Counts.{ones_in_lem}
-use Rattle.sessions.proofs.size_links.Goals as goal
-
-pub returns : goal.returns
-returns c = ones_in_lem 64 c.args.w (omega arith)
