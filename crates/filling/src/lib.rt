@@ -12,7 +12,6 @@ ghost use Rattle.filling.specs.SmallestShare.{Busy, Counted, GivenFits, LeastLin
 
 use declarations::Declared;
 use fractions::Part;
-use std::cmp::Ordering;
 
 // The links as the rounds leave them: those that have a session not yet fixed; and for each link what is left of it, the sessions there not yet fixed,
 // how many they are, and the one that was fixed last, where all are fixed.
@@ -66,20 +65,22 @@ impl Smallest {
         let share = Part { num: room, den: 1 }.among(count);
         let mine = share.num * self.count;
         let best = self.room * share.den;
-        match mine.cmp(&best) {
-            Ordering::Less => Smallest {
+        if mine < best {
+            return Smallest {
                 room: share.num,
                 count: share.den,
                 own,
                 links: link,
-            },
-            Ordering::Equal => Smallest {
+            };
+        }
+        if mine == best {
+            return Smallest {
                 own: self.own | own,
                 links: self.links | link,
                 ..self
-            },
-            Ordering::Greater => self,
+            };
         }
+        self
     }
 
     // This one, or the own limit of one of the sessions not yet fixed, where that is smaller. 01: "D acts as one more link that only this session

@@ -39,8 +39,5 @@ pub fn told(rt: &impl Print, t: &[u64; 9153]) -> io::Result<()> {
 
 // The line ends, with `changed` where the table is another than it was to be.
 pub fn same(rt: &impl Print, t: &[u64; 9153], expected: &[u64; 9153]) -> io::Result<()> {
-    if t != expected {
-        rt.print(" changed")?;
-    }
-    rt.println("")
+    rt.println(if t == expected { "" } else { " changed" })
 }

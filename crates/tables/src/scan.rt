@@ -1,10 +1,13 @@
 // The parts of a line: words, decimal numbers, and records in hex.
+ghost use Rattle.std.specs.Prelude.{◌+◌, ◌≤◌, length};
 
 // A decimal number is below this.
 const LIMIT: u64 = 1_000_000_000_000;
 
 // The word that a text starts with, up to a space or the text's end, and what stands behind the space.
-pub fn word(s: &[u8]) -> (&[u8], &[u8]) {
+pub fn word(s: &[u8]) -> (&[u8], &[u8])
+    ensures { length result.0.now + length result.1.now ≤ length s.now }
+{
     match s.iter().position(|b| *b == b' ') {
         Some(i) => (&s[..i], &s[i + 1..]),
         None => (s, &[]),
